@@ -1,0 +1,3 @@
+pub mod Encoding
+pub mod Call
+pub mod Listing

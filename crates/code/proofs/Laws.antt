@@ -1,0 +1,74 @@
+-- Where code is found, and that it lies within the slice. Assumes nothing.
+use Prim.Native.Nat.{ℕ, _+_, _-_, _*_, _/_, _≤_, _<_}
+use mathlib.Core.Path.{_≡_, refl, sym, _∙_}
+use mathlib.Core.List.{List}
+use mathlib.Core.Bool.{true}
+use native.Mathlib.Omega.{arith}
+use lib.ListN.{length, getD}
+use lib.Dec.{leb, ltb}
+use borrow.Author.Tests.{leb-true, ltb-true, ltb-false, lt-ltb, le-ltb}
+use Rattle.words.specs.Words.{firstFrom}
+use Rattle.words.proofs.Laws.{every-at, all-at, and-left, and-right, first-holds}
+use Rattle.words.proofs.Cases.{by-bool}
+use Rattle.code.specs.Code.{Code, codeIsGood, address, offset, size, holdsBytes, placeOf, little}
+use Rattle.code.specs.declared.Place.the-variants.{At, Nowhere}
+
+-- a section that holds the bytes starts at or before them and ends at or after them
+pub held : (s : List ℕ) (n a k : ℕ) → holdsBytes s n a k ≡ true → (address s k ≤ a) × (a + n ≤ address s k + size s k)
+unfolding holdsBytes
+held s n a k e =
+    (leb-true _ _ (and-left (leb (address s k) a) (leb (a + n) (address s k + size s k)) e), leb-true _ _ (and-right (leb (address s k) a) (leb (a + n) (address s k + size s k)) e))
+
+module _ (s : List ℕ) (n a k : ℕ) (e : k ≡ firstFrom (holdsBytes s n a) (length s / 3) 0) where
+  -- the first section that holds the bytes holds them
+  pub first-held : k < length s / 3 → (address s k ≤ a) × (a + n ≤ address s k + size s k)
+  first-held h =
+      let l : firstFrom (holdsBytes s n a) (length s / 3) 0 < 0 + length s / 3 = omega arith in
+      held s n a k (rw (← e) at (first-holds (holdsBytes s n a) (length s / 3) 0 l))
+
+  pub place-at : k < length s / 3 → placeOf s n a ≡ At (offset s k + (a - address s k))
+  unfolding placeOf
+  place-at h = simp (← e, lt-ltb _ _ h)
+
+  pub place-nowhere : length s / 3 ≤ k → placeOf s n a ≡ Nowhere
+  unfolding placeOf
+  place-nowhere h = simp (← e, le-ltb _ _ h)
+
+-- where the code is good, what is found lies within the slice
+pub found-inside : (c : Code) (n a p : ℕ) → codeIsGood c ≡ true → placeOf (c .sections) n a ≡ At p → p + n ≤ length (c .bytes)
+unfolding codeIsGood
+found-inside c n a p g e =
+    by-bool (ltb k m)
+    (λ t.
+    let h : k < m = ltb-true _ _ t in
+    let w : (address s k ≤ a) × (a + n ≤ address s k + size s k) = first-held s n a k refl h in
+    let l : offset s k + size s k ≤ length (c .bytes) = leb-true _ _ (all-at _ m k (every-at _ 4 g) h) in
+    let q : offset s k + (a - address s k) ≡ p = at-same (sym (place-at s n a k refl h) ∙ e) in
+    omega arith)
+    (λ t. absurd (at-nowhere (sym (place-nowhere s n a k refl (ltb-false _ _ t)) ∙ e)))
+  where
+    s : List ℕ
+    s = c .sections
+
+    m : ℕ
+    m = length s / 3
+
+    k : ℕ
+    k = firstFrom (holdsBytes s n a) m 0
+
+    at-same : {x y : ℕ} → At x ≡ At y → x ≡ y
+    at-same e = cc
+
+    at-nowhere : {y : ℕ} → Nowhere ≡ At y → ⊥
+    at-nowhere e = let z : _≡_ {A = ℕ} 0 1 = cc in omega arith
+
+-- two bytes, and two pairs of bytes
+pub little-two : (b : List ℕ) (p : ℕ) → little 2 b p ≡ getD b p 0 + 256 * getD b (p + 1) 0
+unfolding little
+little-two b p = omega arith
+
+pub little-four : (b : List ℕ) (p : ℕ) → little 4 b p ≡ little 2 b p + 65536 * little 2 b (p + 2)
+unfolding little
+little-four b p =
+    let e : p + 1 + 1 ≡ p + 2 = omega arith in
+    rw e (omega arith)

@@ -1,0 +1,3 @@
+pub mod RowLaws
+pub mod Search
+pub mod Fits

@@ -1,0 +1,236 @@
+-- The laws of `sum` and `all` that a loop counting up from 0 needs: where it begins, one turn, and what a whole says of a part.
+-- Assumes nothing.
+use Prim.Native.Nat.{ℕ, zero, suc, _+_, _-_, _*_, _≤_, _<_}
+use mathlib.Core.Path.{_≡_, refl, sym, ap, _∙_, fun-ext}
+use mathlib.Core.Bool.{Bool, true, false, _&&_, cond, and-false, or-true}
+use mathlib.Core.List.{List, [], _∷_}
+use lib.ListN.{getD}
+use lib.Dec.{leb, ltb}
+use borrow.Author.Tests.{leb-true}
+use mathlib.Core.Logic.{⊎-elim}
+use native.Mathlib.Nat.{eq-or-lt-of-le, le-of-suc-le-suc, mul-le-mul-left, mul-le-mul-right, mul-suc}
+use native.Mathlib.Numerals.{add-one, sub-one}
+use native.Mathlib.Omega.{arith}
+use Rattle.words.specs.Words.{field, sum, all, any, every, firstFrom, howMany, rising}
+
+pub sum-more : (f : ℕ → ℕ) (n : ℕ) → sum (n + 1) f ≡ sum n f + f n
+unfolding sum
+sum-more f n = rw (add-one, sum)
+
+pub sum-none : (f : ℕ → ℕ) → sum 0 f ≡ 0
+unfolding sum
+sum-none f = refl
+
+-- a part of a sum is at most the sum
+pub sum-part : (f : ℕ → ℕ) (k n : ℕ) → k ≤ n → sum k f ≤ sum n f
+unfolding sum
+sum-part f k zero h = let e : k ≡ 0 = omega arith in rw e (omega arith)
+sum-part f k (suc n) h =
+    ⊎-elim (λ e. rw e (omega arith))
+    (λ l. let p : sum k f ≤ sum n f = sum-part f k n (le-of-suc-le-suc l) in omega arith)
+    (eq-or-lt-of-le h)
+
+-- one more summand of a part is at most the sum
+pub sum-upto : (f : ℕ → ℕ) (k n : ℕ) → k < n → sum k f + f k ≤ sum n f
+unfolding sum
+sum-upto f k n h = sum-part f (suc k) n h
+
+pub and-left : (a b : Bool) → (a && b) ≡ true → a ≡ true
+and-left true b e = refl
+and-left false b e = e
+
+pub and-right : (a b : Bool) → (a && b) ≡ true → b ≡ true
+and-right true b e = e
+and-right false b e = cc
+
+pub all-none : (P : ℕ → Bool) → all 0 P ≡ true
+unfolding all
+all-none P = refl
+
+pub all-more : (P : ℕ → Bool) (n : ℕ) → all n P ≡ true → P n ≡ true → all (n + 1) P ≡ true
+unfolding all
+all-more P n a p = rw (add-one, all) (simp (a, p))
+
+-- what holds of all holds of one
+pub all-at : (P : ℕ → Bool) (n k : ℕ) → all n P ≡ true → k < n → P k ≡ true
+unfolding all
+all-at P zero k a h = absurd (omega arith)
+all-at P (suc n) k a h =
+    ⊎-elim (λ e. rw e (and-right (all n P) (P n) a)) (λ l. all-at P n k (and-left (all n P) (P n) a) l)
+    (eq-or-lt-of-le (le-of-suc-le-suc h))
+
+-- one that fails, and all fails
+pub all-false : (P : ℕ → Bool) (n k : ℕ) → k < n → P k ≡ false → all n P ≡ false
+unfolding all
+all-false P n k h p = go (all n P) refl
+  where
+    go : (b : Bool) → all n P ≡ b → b ≡ false
+    go true e = sym (all-at P n k e h) ∙ p
+    go false e = refl
+
+-- where every test holds, test i does
+pub every-at : (bs : List Bool) (i : ℕ) → every bs ≡ true → getD bs i true ≡ true
+unfolding every
+every-at [] i e = refl
+every-at (b ∷ bs) zero e = and-left b (every bs) e
+every-at (b ∷ bs) (suc i) e = every-at bs i (and-right b (every bs) e)
+
+-- where test i fails, not every test holds
+pub every-false : (bs : List Bool) (i : ℕ) → getD bs i true ≡ false → every bs ≡ false
+unfolding every
+every-false [] i e = e
+every-false (b ∷ bs) zero e = rw e
+every-false (b ∷ bs) (suc i) e = rw (every-false bs i e) (and-false b)
+
+-- one test after the other
+pub every-none : every [] ≡ true
+unfolding every
+every-none = refl
+
+pub every-more : (b : Bool) (bs : List Bool) → b ≡ true → every bs ≡ true → every (b ∷ bs) ≡ true
+unfolding every
+every-more b bs e f = rw e f
+
+-- the last test decides
+pub every-last : (b : Bool) → every (b ∷ []) ≡ b
+unfolding every
+every-last true = refl
+every-last false = refl
+
+pub every-skip : (b : Bool) (bs : List Bool) → b ≡ true → every (b ∷ bs) ≡ every bs
+unfolding every
+every-skip b bs e = rw e
+
+pub any-none : (P : ℕ → Bool) → any 0 P ≡ false
+unfolding any
+any-none P = refl
+
+pub any-more : (P : ℕ → Bool) (n : ℕ) → any n P ≡ false → P n ≡ false → any (n + 1) P ≡ false
+unfolding any
+any-more P n a p = rw (add-one, any) (simp (a, p))
+
+-- one that holds, and some holds
+pub any-true : (P : ℕ → Bool) (n k : ℕ) → k < n → P k ≡ true → any n P ≡ true
+unfolding any
+any-true P zero k h p = absurd (omega arith)
+any-true P (suc n) k h p =
+    ⊎-elim (λ e. let q : P n ≡ true = rw e at p in simp (q, or-true)) (λ l. simp (any-true P n k l p))
+    (eq-or-lt-of-le (le-of-suc-le-suc h))
+
+-- one turn of the search for the first: k is it, or it is among those after k
+pub first-hit : (P : ℕ → Bool) (n k : ℕ) → 0 < n → P k ≡ true → firstFrom P n k ≡ k
+unfolding firstFrom
+first-hit P zero k h e = absurd (omega arith)
+first-hit P (suc n) k h e = rw e
+
+pub first-miss : (P : ℕ → Bool) (n k : ℕ) → 0 < n → P k ≡ false → firstFrom P n k ≡ firstFrom P (n - 1) (k + 1)
+unfolding firstFrom
+first-miss P zero k h e = absurd (omega arith)
+first-miss P (suc n) k h e = rw (e, sub-one)
+
+pub first-none : (P : ℕ → Bool) (n k : ℕ) → n ≤ 0 → firstFrom P n k ≡ k
+unfolding firstFrom
+first-none P zero k h = refl
+first-none P (suc n) k h = absurd (omega arith)
+
+-- the first is at least k, at most k + n
+pub first-from : (P : ℕ → Bool) (n k : ℕ) → k ≤ firstFrom P n k
+unfolding firstFrom
+first-from P zero k = omega arith
+first-from P (suc n) k = go (P k) (first-from P n (k + 1))
+  where
+    go : (b : Bool) → k + 1 ≤ firstFrom P n (k + 1) → k ≤ cond b k (firstFrom P n (k + 1))
+    go true h = omega arith
+    go false h = omega arith
+
+pub first-upto : (P : ℕ → Bool) (n k : ℕ) → firstFrom P n k ≤ k + n
+unfolding firstFrom
+first-upto P zero k = omega arith
+first-upto P (suc n) k = go (P k) (first-upto P n (k + 1))
+  where
+    go : (b : Bool) → firstFrom P n (k + 1) ≤ k + 1 + n → cond b k (firstFrom P n (k + 1)) ≤ k + suc n
+    go true h = omega arith
+    go false h = omega arith
+
+-- P holds of the first, where there is one
+pub first-holds : (P : ℕ → Bool) (n k : ℕ) → firstFrom P n k < k + n → P (firstFrom P n k) ≡ true
+unfolding firstFrom
+first-holds P zero k h = absurd (omega arith)
+first-holds P (suc n) k h = go (P k) refl h (first-holds P n (k + 1))
+  where
+    go : (b : Bool) → P k ≡ b → cond b k (firstFrom P n (k + 1)) < k + suc n → (firstFrom P n (k + 1) < k + 1 + n → P (firstFrom P n (k + 1)) ≡ true)
+        → P (cond b k (firstFrom P n (k + 1))) ≡ true
+    go true e h later = e
+    go false e h later = later (omega arith)
+
+-- where the count has come to its end
+pub any-end : (P : ℕ → Bool) (i n : ℕ) → any i P ≡ false → i ≤ n → n ≤ i → any n P ≡ false
+any-end P i n a h g = let e : i ≡ n = omega arith in rw e at a
+
+pub all-end : (P : ℕ → Bool) (i n : ℕ) → all i P ≡ true → i ≤ n → n ≤ i → all n P ≡ true
+all-end P i n a h g = let e : i ≡ n = omega arith in rw e at a
+
+pub sum-end : (f : ℕ → ℕ) (i n t : ℕ) → t ≡ sum i f → i ≤ n → n ≤ i → t ≡ sum n f
+sum-end f i n t a h g = let e : i ≡ n = omega arith in rw e at a
+
+-- where P holds below lo and fails from lo on, it holds of lo
+pub how-many : (P : ℕ → Bool) (n lo : ℕ) → lo ≤ n → ((k : ℕ) → k < lo → P k ≡ true) → ((k : ℕ) → lo ≤ k → k < n → P k ≡ false) → howMany n P ≡ lo
+unfolding howMany
+how-many P zero lo h t f = omega arith
+how-many P (suc n) lo h t f =
+    ⊎-elim
+    (λ e.
+    let m : howMany n P ≡ n = how-many P n n (omega arith) (λ k l. t k (omega arith)) (λ k l l′. absurd (omega arith)) in
+    rw (t n (omega arith)) (omega arith))
+    (λ l.
+    let m : howMany n P ≡ lo = how-many P n lo (le-of-suc-le-suc l) t (λ k a b. f k a (omega arith)) in
+    rw (f n (omega arith) (omega arith)) (omega arith))
+    (eq-or-lt-of-le h)
+
+pub how-many-upto : (P : ℕ → Bool) (n : ℕ) → howMany n P ≤ n
+unfolding howMany
+how-many-upto P zero = omega arith
+how-many-upto P (suc n) = go (P n) (how-many-upto P n)
+  where
+    go : (b : Bool) → howMany n P ≤ n → howMany n P + cond b 1 0 ≤ suc n
+    go true h = omega arith
+    go false h = omega arith
+
+-- in a list that rises by 0 or more, a later word is no less
+pub risen : (s : List ℕ) (w j first n : ℕ) → rising 0 s w j first n ≡ true → (p q : ℕ) → p ≤ q → q < n → field s w (first + p) j ≤ field s w (first + q) j
+unfolding rising
+risen s w j first n g p zero h l = let e : p ≡ 0 = omega arith in rw e (omega arith)
+risen s w j first n g p (suc q) h l =
+    ⊎-elim (λ e. rw e (omega arith))
+    (λ m.
+    let a : field s w (first + p) j ≤ field s w (first + q) j = risen s w j first n g p q (le-of-suc-le-suc m) (omega arith) in
+    let b : 0 + field s w (first + q) j ≤ field s w (first + q + 1) j = leb-true _ _ (all-at _ (n - 1) q g (omega arith)) in
+    let e : first + q + 1 ≡ first + suc q = omega arith in
+    let b′ : 0 + field s w (first + q) j ≤ field s w (first + suc q) j = rw e at b in
+    omega arith)
+    (eq-or-lt-of-le h)
+
+-- word j of record k of n is a word of the list
+pub within-records : (w n k j len : ℕ) → w * n ≤ len → k < n → j < w → w * k + j < len
+within-records w n k j len h kn jw =
+    omega (arith, mul-le-mul-left w kn, mul-suc w k)
+
+-- a list has no fewer words than records
+pub records-upto : (w m j len : ℕ) → w * m ≤ len → j < w → m ≤ len
+records-upto w m j len h jw =
+    let g : 1 * m ≤ w * m = mul-le-mul-right m (omega arith) in
+    omega arith
+
+-- fewer than two records rise
+pub rising-none : (gap : ℕ) (s : List ℕ) (w j first n : ℕ) → n ≡ 0 → rising gap s w j first n ≡ true
+unfolding rising all
+rising-none gap s w j first zero h = refl
+rising-none gap s w j first (suc n) h = absurd (omega arith)
+
+-- a number less than another is at least 1 less
+pub apart-less : (f g : ℕ → ℕ) (n : ℕ) → all n (λ k. leb (1 + f k) (g k)) ≡ all n (λ k. ltb (f k) (g k))
+apart-less f g n = ap (λ (P : ℕ → Bool). all n P) (fun-ext λ k. let e : 1 + f k ≡ suc (f k) = omega arith in ap (λ (x : ℕ). leb x (g k)) e)
+
+-- a number is at most another where it is at least 0 less
+pub apart-upto : (f g : ℕ → ℕ) (n : ℕ) → all n (λ k. leb (0 + f k) (g k)) ≡ all n (λ k. leb (f k) (g k))
+apart-upto f g n = ap (λ (P : ℕ → Bool). all n P) (fun-ext λ k. let e : 0 + f k ≡ f k = omega arith in ap (λ (x : ℕ). leb x (g k)) e)
