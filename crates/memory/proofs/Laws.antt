@@ -1,6 +1,7 @@
 -- What a good memory says, and one turn of the search for a word. Assumes nothing.
-use Prim.Native.Nat.{ℕ, zero, suc, _+_, _-_, _/_, _≤_, _<_}
-use mathlib.Core.Path.{_≡_, refl}
+use Prim.Native.Nat.{ℕ, zero, suc, _+_, _-_, _/_, _^_, _≤_, _<_}
+use mathlib.Core.Path.{_≡_, refl, ap, _∙_}
+use mathlib.Core.Option.{none, some}
 use mathlib.Core.List.{List}
 use mathlib.Core.Bool.{true, cond}
 use native.Mathlib.Numerals.{sub-one}
@@ -8,9 +9,10 @@ use native.Mathlib.Omega.{arith}
 use lib.ListN.{length, getD}
 use lib.Dec.{leb, ltb}
 use borrow.Author.Tests.{leb-true, ltb-true, eqb-true}
-use Rattle.words.specs.Words.{sum}
+use Rattle.words.specs.Words.{wrap, sum}
 use Rattle.words.proofs.Laws.{sum-upto, every-at, and-left, and-right}
-use Rattle.memory.specs.Memory.{Memory, base, count, memoryIsGood, holdsWord, wordFrom}
+use Rattle.memory.specs.Memory.{Memory, base, count, memoryIsGood, holdsWord, wordFrom, wordAt, wordSeen, readAt}
+use Rattle.memory.specs.declared.Word.{Word}
 use Rattle.memory.specs.declared.Word.the-variants.{Is, Unknown}
 
 -- in a good memory the words of segment k lie within the words
@@ -38,3 +40,15 @@ module _ (m : Memory) (a : ℕ) where
   unfolding wordFrom
   turn zero k h = absurd (omega arith)
   turn (suc n) k h = rw sub-one
+
+-- what is read at an address, by what the code answers there
+module _ (m : Memory) (a : ℕ) (h : a < 2 ^ 32) (x : Word) (e : x ≡ wordAt m a) where
+  read-seen : readAt m a ≡ wordSeen x
+  unfolding readAt
+  read-seen = let w : wrap a ≡ a = omega arith in rw (w, e)
+
+  pub read-unknown : x ≡ Unknown → readAt m a ≡ none
+  read-unknown q = read-seen ∙ ap wordSeen q
+
+  pub read-is : (v : ℕ) → x ≡ Is v → readAt m a ≡ some v
+  read-is v q = read-seen ∙ ap wordSeen q

@@ -4,7 +4,8 @@ use mathlib.Core.List.{List, [], _∷_}
 use mathlib.Core.Bool.{Bool, cond, _&&_}
 use lib.ListN.{length, getD}
 use lib.Dec.{ltb, leb, eqb}
-use Rattle.words.specs.Words.{field, sum, every}
+use mathlib.Core.Option.{Option, none, some}
+use Rattle.words.specs.Words.{wrap, field, sum, every}
 use Rattle.memory.specs.declared.Word.{Word}
 use Rattle.memory.specs.declared.Word.the-variants.{Is, Unknown}
 
@@ -49,3 +50,11 @@ wordFrom m addr (suc n) k =
 -- the word at an address; one that is no multiple of 4 has none
 unfoldable pub wordAt : Memory → ℕ → Word
 wordAt m addr = cond (eqb (addr % 4) 0) (wordFrom m addr (length (m .segments) / 2) 0) Unknown
+
+abbrev pub wordSeen : Word → Option ℕ
+wordSeen (Is w) = some w
+wordSeen Unknown = none
+
+-- what a walk reads: the word at a 32-bit address, where there is one
+unfoldable pub readAt : Memory → ℕ → Option ℕ
+readAt m addr = wordSeen (wordAt m (wrap addr))

@@ -1,1 +1,11 @@
 pub mod EdgesHold
+pub mod Allowance
+pub mod Onward
+pub mod Grown
+pub mod Scans
+pub mod Steps
+pub mod Rounds
+pub mod Runs
+pub mod DemandHolds
+pub mod ThirdCase
+pub mod Count

@@ -7,13 +7,13 @@ use mathlib.Core.Option.{Option, none, some}
 use mathlib.Core.Path.{_≡_, refl, sym, ap, ap₂, _∙_, fun-ext}
 use lib.Bits.{bitOr, bitXor}
 use lib.Dec.{leb, ltb, eqb}
-use lib.ListN.{getD, length, set, replicate}
+use lib.ListN.{length-set, getD, length, set, replicate}
 use lib.Seq.{getD-set-same, getD-set-other}
 use native.Mathlib.Omega.{arith}
-use borrow.Author.Tests.{ltb-true, leb-true, eqb-true, eqb-false, eq-eqb, ne-eqb, le-leb, lt-leb, lt-ltb, le-ltb}
+use borrow.Author.Tests.{ltb-true, leb-true, eqb-true, eqb-false, eq-eqb, ne-eqb, lt-ltb, le-ltb}
 use Rattle.words.specs.Words.{bit, within}
 use Rattle.words.proofs.Cases.{by-bool}
-use Rattle.words.proofs.Laws.{and-left, and-right}
+use Rattle.words.proofs.Laws.{and-left, and-right, in-range, before-range, past-range}
 use Rattle.registers.specs.Registers.{Regs, blank, settable, put, readBy, reads, valueOf, remade, newOf, setOf, clearOf}
 use Rattle.registers.specs.declared.Registers.{Registers}
 use Rattle.registers.specs.declared.Value.{Value}
@@ -28,17 +28,6 @@ value-known (some w) x v e h = cc
 pub value-unknown : (o : Option ℕ) (x : Value) → x ≡ valueOf o → x ≡ Unknown → o ≡ none
 value-unknown none x e h = refl
 value-unknown (some w) x e h = absurd (let z : _≡_ {A = ℕ} 0 1 = cc in omega arith)
-
--- a number is in a range, before it, or past it
-module _ (start end x : ℕ) where
-  pub in-range : start ≤ x → x < end → within start end x ≡ true
-  in-range l h = rw (le-leb start x l, lt-ltb x end h)
-
-  pub before-range : x < start → within start end x ≡ false
-  before-range l = rw (lt-leb start x l)
-
-  pub past-range : end ≤ x → within start end x ≡ false
-  past-range h = rw (le-ltb x end h) (and-false (leb start x))
 
 -- the numbers 1 to 31, and the others
 inside : (r : ℕ) → r ≢ 0 → r < 32 → within 1 32 r ≡ true
@@ -170,3 +159,21 @@ module _ (s : Registers) (r : ℕ) where
       (λ q n. read-same (s .mask) (s .values) q (bitXor (s .mask) (2 ^ r)) (s .values) (xor-leaves (s .mask) r q n) refl)))
       (λ b. rw (t, clearOf, b) (put-is r none (reads s) (reads s) t (read-unknown (s .mask) (s .values) r (not-zero r t) (eqb-false (bit (s .mask) r) 1 b)) (λ q n. refl))))
       (λ t. rw (t, clearOf) (sym (put-out r none (reads s) t)))
+
+-- setting and clearing leave everything but what is known, and how many values there are
+pub record Remade (s t : Registers) : Type 0 where
+  pub pc : t .pc ≡ s .pc
+  pub place : t .«sp_is_placeholder» ≡ s .«sp_is_placeholder»
+  pub size : length (t .values) ≡ length (s .values)
+
+pub set-remade : (s : Registers) (r v : ℕ) → Remade s (setOf s r v)
+unfolding setOf
+set-remade s r v =
+    by-bool (within 1 32 r) (λ t. rw (t, setOf) (record { pc = refl; place = refl; size = length-set (s .values) r v }))
+    (λ t. rw (t, setOf) (record { pc = refl; place = refl; size = refl }))
+
+pub clear-remade : (s : Registers) (r : ℕ) → Remade s (clearOf s r)
+unfolding clearOf
+clear-remade s r =
+    by-bool (within 1 32 r && eqb (bit (s .mask) r) 1) (λ t. rw (t, clearOf) (record { pc = refl; place = refl; size = refl }))
+    (λ t. rw (t, clearOf) (record { pc = refl; place = refl; size = refl }))

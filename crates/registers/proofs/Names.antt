@@ -12,7 +12,8 @@ use native.Mathlib.Omega.{arith}
 use borrow.Author.Tests.{eq-eqb, ne-eqb}
 use Rattle.words.specs.Words.{any, firstFrom}
 use Rattle.words.proofs.Laws.{any-true, any-end, first-hit, first-miss}
-use Rattle.registers.specs.Registers.{valueOf, bytes, registerNames, same, isNamed, numberNamed, textOf}
+use Rattle.words.specs.Text.{bytes}
+use Rattle.registers.specs.Registers.{valueOf, registerNames, same, isNamed, numberNamed, textOf}
 use Rattle.registers.specs.declared.Value.the-variants.{Known, Unknown}
 
 -- the text ends at a 0, and at the entry's end

@@ -1,7 +1,6 @@
 -- The registers (document 01, module 2): what each number reads, the whole answer of each operation, and the names.
 use Prim.Native.Nat.{ℕ, _^_}
-use Prim.Native.String.{String, [] as empty, _∷_ as _⊳_}
-use Prim.Native.Char.{code}
+use Prim.Native.String.{String}
 use mathlib.Core.Bool.{Bool, true, false, _&&_, _||_}
 use mathlib.Core.List.{List, [], _∷_}
 use mathlib.Core.Option.{Option, none, some}
@@ -9,6 +8,7 @@ use lib.Bits.{bitOr, bitXor}
 use lib.Dec.{eqb, ltb}
 use lib.ListN.{getD, set, replicate}
 use Rattle.words.specs.Words.{bit, within, any, firstFrom}
+use Rattle.words.specs.Text.{bytes}
 use Rattle.registers.specs.declared.Registers.{Registers}
 use Rattle.registers.specs.declared.Value.{Value}
 use Rattle.registers.specs.declared.Value.the-variants.{Known, Unknown}
@@ -65,11 +65,6 @@ setOf s r v = elim (within 1 32 r) [ true ↦ remade s (bitOr (s .mask) (2 ^ r))
 -- what `clear` answers: for 1 to 31 a bit that is set is flipped, else nothing changes
 unfoldable pub clearOf : Registers → ℕ → Registers
 clearOf s r = elim (within 1 32 r && eqb (bit (s .mask) r) 1) [ true ↦ remade s (bitXor (s .mask) (2 ^ r)) (s .values) | false ↦ s ]
-
--- the bytes of a text
-abbrev pub bytes : String → List ℕ
-bytes empty = []
-bytes (c ⊳ t) = code c ∷ bytes t
 
 -- the registers' names, in the order of their numbers
 unfoldable pub registerNames : List String

@@ -2,16 +2,17 @@
 -- Assumes nothing.
 use Prim.Native.Nat.{ℕ, zero, suc, _+_, _-_, _*_, _≤_, _<_}
 use mathlib.Core.Path.{_≡_, refl, sym, ap, _∙_, fun-ext}
-use mathlib.Core.Bool.{Bool, true, false, _&&_, cond, and-false, or-true}
+use mathlib.Core.Bool.{true≢false, _||_, Bool, true, false, _&&_, cond, and-false, or-true}
 use mathlib.Core.List.{List, [], _∷_}
 use lib.ListN.{getD}
 use lib.Dec.{leb, ltb}
-use borrow.Author.Tests.{leb-true}
-use mathlib.Core.Logic.{⊎-elim}
+use borrow.Author.Tests.{leb-true, le-leb, lt-leb, lt-ltb, le-ltb}
+use mathlib.Core.Logic.{_⊎_, ⊎-elim}
 use native.Mathlib.Nat.{eq-or-lt-of-le, le-of-suc-le-suc, mul-le-mul-left, mul-le-mul-right, mul-suc}
 use native.Mathlib.Numerals.{add-one, sub-one}
 use native.Mathlib.Omega.{arith}
-use Rattle.words.specs.Words.{field, sum, all, any, every, firstFrom, howMany, rising}
+use Rattle.words.proofs.Cases.{by-bool}
+use Rattle.words.specs.Words.{within, field, sum, all, any, every, firstFrom, howMany, rising}
 
 pub sum-more : (f : ℕ → ℕ) (n : ℕ) → sum (n + 1) f ≡ sum n f + f n
 unfolding sum
@@ -81,15 +82,6 @@ unfolding every
 every-false [] i e = e
 every-false (b ∷ bs) zero e = rw e
 every-false (b ∷ bs) (suc i) e = rw (every-false bs i e) (and-false b)
-
--- one test after the other
-pub every-none : every [] ≡ true
-unfolding every
-every-none = refl
-
-pub every-more : (b : Bool) (bs : List Bool) → b ≡ true → every bs ≡ true → every (b ∷ bs) ≡ true
-unfolding every
-every-more b bs e f = rw e f
 
 -- the last test decides
 pub every-last : (b : Bool) → every (b ∷ []) ≡ b
@@ -234,3 +226,57 @@ apart-less f g n = ap (λ (P : ℕ → Bool). all n P) (fun-ext λ k. let e : 1 
 -- a number is at most another where it is at least 0 less
 pub apart-upto : (f g : ℕ → ℕ) (n : ℕ) → all n (λ k. leb (0 + f k) (g k)) ≡ all n (λ k. leb (f k) (g k))
 apart-upto f g n = ap (λ (P : ℕ → Bool). all n P) (fun-ext λ k. let e : 0 + f k ≡ f k = omega arith in ap (λ (x : ℕ). leb x (g k)) e)
+
+-- neither of two holds
+pub or-left : (p q : Bool) → (p || q) ≡ false → p ≡ false
+or-left true q e = absurd (true≢false e)
+or-left false q e = refl
+
+pub or-right : (p q : Bool) → (p || q) ≡ false → q ≡ false
+or-right true q e = absurd (true≢false e)
+or-right false q e = e
+
+-- of two conditions that a third takes, no fewer numbers together pass than of the third
+pub how-many-or : (p q r : ℕ → Bool) (n : ℕ) → ((j : ℕ) → p j ≡ true → (q j ≡ true) ⊎ (r j ≡ true)) → howMany n p ≤ howMany n q + howMany n r
+unfolding howMany
+how-many-or p q r zero h = omega arith
+how-many-or p q r (suc n) h =
+    let i : howMany n p ≤ howMany n q + howMany n r = how-many-or p q r n h in
+    let g : cond (p n) 1 0 ≤ cond (q n) 1 0 + cond (r n) 1 0 = last (p n) (q n) (r n) (h n) in
+    omega arith
+  where
+    last : (x y z : Bool) → (x ≡ true → (y ≡ true) ⊎ (z ≡ true)) → cond x 1 0 ≤ cond y 1 0 + cond z 1 0
+    last false y z k = omega arith
+    last true true z k = omega arith
+    last true false true k = omega arith
+    last true false false k = ⊎-elim (λ e. absurd (true≢false (sym e))) (λ e. absurd (true≢false (sym e))) (k refl)
+
+-- a condition that no two numbers pass
+pub how-many-one : (p : ℕ → Bool) (n : ℕ) → ((i j : ℕ) → i < n → j < n → p i ≡ true → p j ≡ true → i ≡ j) → howMany n p ≤ 1
+unfolding howMany
+how-many-one p zero h = omega arith
+how-many-one p (suc n) h =
+    by-bool (p n)
+    (λ e. let z : howMany n p ≡ 0 = how-many p n 0 (omega arith) (λ k l. absurd (omega arith)) (λ k g l. by-bool (p k) (λ t. let q : k ≡ n = h k n (omega arith) (omega arith) t e in absurd (omega arith)) (λ t. t)) in
+    rw e (omega arith))
+    (λ e. let i : howMany n p ≤ 1 = how-many-one p n (λ i j a b s t. h i j (omega arith) (omega arith) s t) in rw e (omega arith))
+
+-- where not all of n numbers pass, there is one that does not
+pub how-many-less : (p : ℕ → Bool) (n : ℕ) → howMany n p < n → (j : ℕ) × (j < n) × (p j ≡ false)
+unfolding howMany
+how-many-less p zero h = absurd (omega arith)
+how-many-less p (suc n) h =
+    by-bool (p n)
+    (λ e. let g : howMany n p + 1 < suc n = rw e at h in let i : (j : ℕ) × (j < n) × (p j ≡ false) = how-many-less p n (omega arith) in (i .0, omega (arith, i .1), i .2))
+    (λ e. (n, omega arith, e))
+
+-- what is in a range, before it, and past it
+module _ (start end x : ℕ) where
+  pub in-range : start ≤ x → x < end → within start end x ≡ true
+  in-range l h = rw (le-leb start x l, lt-ltb x end h)
+
+  pub before-range : x < start → within start end x ≡ false
+  before-range l = rw (lt-leb start x l)
+
+  pub past-range : end ≤ x → within start end x ≡ false
+  past-range h = rw (le-ltb x end h) (and-false (leb start x))

@@ -1,6 +1,6 @@
 -- `registers::is_callee_saved` meets its contract. Assumes nothing.
 use native.Mathlib.Omega.{arith}
-use Rattle.registers.proofs.Laws.{in-range, before-range, past-range}
+use Rattle.words.proofs.Laws.{in-range, before-range, past-range}
 use Rattle.registers.proofs.is_callee_saved.Statement.{statement}
 use Rattle.registers.proofs.is_callee_saved.Tie as tie
 

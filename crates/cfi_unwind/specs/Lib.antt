@@ -1,0 +1,4 @@
+pub mod Stop
+pub mod Step
+pub mod Walk
+pub mod Answers

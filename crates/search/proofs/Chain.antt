@@ -1,0 +1,326 @@
+-- The chain search, a turn of its loop at a time. Assumes nothing.
+use Prim.Native.Nat.{ℕ, zero, suc, _-_, _<_, _≤_}
+use mathlib.Core.Path.{_≡_, refl, sym, ap, _∙_, subst, subst⁻¹}
+use mathlib.Core.List.{List, [], _∷_}
+use mathlib.Core.Option.{Option, none, some, Option·none-ne-some, Option·some-injective}
+use native.Mathlib.Omega.{arith}
+use lib.ListN.{length}
+use lib.Dec.{ltb}
+use Rattle.words.specs.Words.{plus, back}
+use Rattle.words.proofs.Cases.{by-bool, by-option}
+use Rattle.rows.specs.View.{View}
+use Rattle.calls.specs.declared.Call.{Call}
+use Rattle.calls.specs.declared.Call.the-variants.{None, Indirect, Direct}
+use Rattle.calls.specs.declared.Size.the-variants.{Is, Unreadable}
+use Rattle.calls.specs.declared.Listing.{Listing}
+use Rattle.calls.specs.declared.Listing.the-variants.{Other}
+use Rattle.calls.specs.Listing.{Out, spent, ok, andThen, Listed, noted, straight, calls, sizeOf, firstOf, listingBy, listingOf}
+use Rattle.calls.proofs.Turns.{size-is, size-not, calls-end, calls-stuck, calls-broke, calls-visit}
+use Rattle.search.specs.Search.{Link, one, linkAt, follow, throughCalls, chain}
+use Rattle.search.specs.Answers.{followCall, onwardOf, settledBy, withLink, searchedOf}
+use Rattle.search.specs.declared.Onward.{Onward}
+use Rattle.search.specs.declared.Onward.the-variants.{To, No}
+use Rattle.search.specs.declared.Outcome.the-variants as outcome
+use Rattle.search.specs.declared.Searched.{Searched}
+use Rattle.search.proofs.Links.{Sized, with-link, was-missing}
+
+ok-fst : {A : Type 0} (a b : A) (k l : ℕ) → Path (Out A) (ok a k) (ok b l) → a ≡ b
+ok-fst a b k l e = cc
+
+ok-snd : {A : Type 0} (a b : A) (k l : ℕ) → Path (Out A) (ok a k) (ok b l) → k ≡ l
+ok-snd a b k l e = cc
+
+none-sized : (l n : ℕ) → Sized n (ok none l)
+none-sized l n ks m e = absurd (let z : _≡_ {A = ℕ} 0 1 = cc in omega arith)
+
+-- what a listing of one instruction more was made of
+record Inside (f : List Listed → List Listed) (o : Out (List Listed)) (fs : List Listed) (k : ℕ) : Type 0 where
+  inner : List Listed
+  was : o ≡ ok inner k
+  made : fs ≡ f inner
+
+inside : (f : List Listed → List Listed) (o : Out (List Listed)) (fs : List Listed) (k : ℕ) → andThen o (λ gs l. ok (f gs) l) ≡ ok fs k → Inside f o fs k
+unfolding andThen
+inside f spent fs k e = absurd (let z : _≡_ {A = ℕ} 0 1 = cc in omega arith)
+inside f (ok gs l) fs k e = record { inner = gs; was = cc; made = sym (ok-fst (f gs) fs l k e) }
+
+module _ (cb : ℕ → Call) (sz : ℕ → Option ℕ) where
+  -- a listing that leaves k needs just what it takes
+  record Exact (l end pc : ℕ) (fs : List Listed) (k : ℕ) : Type 0 where
+    fits : k ≤ l
+    exact : calls cb sz (l - k) end pc ≡ ok fs 0
+
+  nothing : (l end pc : ℕ) (fs : List Listed) (k : ℕ) → calls cb sz l end pc ≡ ok fs k → ((m : ℕ) → calls cb sz m end pc ≡ ok [] m) → Exact l end pc fs k
+  nothing l end pc fs k e q =
+      let p : Path (Out (List Listed)) (ok fs k) (ok [] l) = sym e ∙ q l in
+      let f : fs ≡ [] = ok-fst fs [] k l p in
+      let g : k ≡ l = ok-snd fs [] k l p in
+      record { fits = omega arith; exact = let z : l - k ≡ 0 = omega arith in q (l - k) ∙ cc }
+
+  calls-exact : (l end pc : ℕ) (fs : List Listed) (k : ℕ) → calls cb sz l end pc ≡ ok fs k → Exact l end pc fs k
+  unfolding andThen
+  calls-exact zero end pc fs k e =
+      by-bool (ltb pc end)
+      (λ t. by-option (sz pc)
+      (λ h. nothing zero end pc fs k e (λ m. calls-stuck cb sz m end pc t h))
+      (λ n h. absurd (let q : calls cb sz zero end pc ≡ spent = calls-broke cb sz end pc n t h in let z : _≡_ {A = ℕ} 0 1 = cc in omega arith)))
+      (λ t. nothing zero end pc fs k e (λ m. calls-end cb sz m end pc t))
+  calls-exact (suc l) end pc fs k e =
+      by-bool (ltb pc end)
+      (λ t. by-option (sz pc)
+      (λ h. nothing (suc l) end pc fs k e (λ m. calls-stuck cb sz m end pc t h))
+      (λ n h. let i : Inside (noted (plus pc n) (cb (plus pc n))) (calls cb sz l end (plus pc n)) fs k = inside _ _ fs k (sym (calls-visit cb sz l end pc n t h) ∙ e) in
+      let x : Exact l end (plus pc n) (i .inner) k = calls-exact l end (plus pc n) (i .inner) k (i .was) in
+      let f : k ≤ l = x .fits in
+      let m : suc l - k ≡ suc (l - k) = omega arith in
+      record { fits = omega arith; exact = rw (m, calls-visit cb sz (l - k) end pc n t h, x .exact) (again n (i .inner) ∙ ap (λ (z : List Listed). ok z 0) (sym (i .made))) }))
+      (λ t. nothing (suc l) end pc fs k e (λ m. calls-end cb sz m end pc t))
+    where
+      again : (n : ℕ) (gs : List Listed) → andThen (ok gs 0) (λ hs l. ok (noted (plus pc n) (cb (plus pc n)) hs) l) ≡ ok (noted (plus pc n) (cb (plus pc n)) gs) 0
+      again n gs = refl
+
+  none-listed : (l end pc : ℕ) (fs : List Listed) → l ≡ 0 → calls cb sz l end pc ≡ ok fs 0 → fs ≡ []
+  none-listed zero end pc fs z e =
+      by-bool (ltb pc end)
+      (λ t. by-option (sz pc)
+      (λ h. ok-fst fs [] 0 0 (sym e ∙ calls-stuck cb sz zero end pc t h))
+      (λ n h. absurd (let q : calls cb sz zero end pc ≡ spent = calls-broke cb sz end pc n t h in let y : _≡_ {A = ℕ} 0 1 = cc in omega arith)))
+      (λ t. ok-fst fs [] 0 0 (sym e ∙ calls-end cb sz zero end pc t))
+  none-listed (suc l) end pc fs z e = absurd (omega arith)
+
+module _ (row : ℕ → Option View) where
+  -- the search on, from a link and the function that it leads to
+  abbrev on-from : (ℕ → ℕ → ℕ → Out (Option (List Link))) → Option (Link × View) → List Listed → ℕ → Out (Option (List Link))
+  on-from deeper none fs l = throughCalls row deeper fs l
+  on-from deeper (some kr) fs l =
+      andThen (deeper (kr .1 .start) (kr .1 .end) l) (λ c k. elim c [ some ks ↦ ok (some (kr .0 ∷ ks)) k | none ↦ throughCalls row deeper fs k ])
+
+  -- the same, where the search from there came to an answer
+  abbrev on-by : (ℕ → ℕ → ℕ → Out (Option (List Link))) → Link × View → List Listed → Out (Option (List Link)) → Out (Option (List Link))
+  on-by deeper kr fs spent = spent
+  on-by deeper kr fs (ok none k) = throughCalls row deeper fs k
+  on-by deeper kr fs (ok (some ks) k) = ok (some (kr .0 ∷ ks)) k
+
+  on-out : (deeper : ℕ → ℕ → ℕ → Out (Option (List Link))) (kr : Link × View) (fs : List Listed) (l : ℕ) (o : Out (Option (List Link)))
+      → deeper (kr .1 .start) (kr .1 .end) l ≡ o → on-from deeper (some kr) fs l ≡ on-by deeper kr fs o
+  unfolding andThen
+  on-out deeper kr fs l o e = rw e (go o)
+    where
+      go : (o : Out (Option (List Link))) → andThen o (λ c k. elim c [ some ks ↦ ok (some (kr .0 ∷ ks)) k | none ↦ throughCalls row deeper fs k ]) ≡ on-by deeper kr fs o
+      go spent = refl
+      go (ok none k) = refl
+      go (ok (some ks) k) = refl
+
+  through-noted : (deeper : ℕ → ℕ → ℕ → Out (Option (List Link))) (ra : ℕ) (c : Call) (fs : List Listed) (l : ℕ)
+      → throughCalls row deeper (noted ra c fs) l ≡ on-from deeper (followCall row ra c) fs l
+  unfolding throughCalls noted follow
+  through-noted deeper ra None fs l = refl
+  through-noted deeper ra Indirect fs l = refl
+  through-noted deeper ra (Direct t) fs l =
+      by-option (follow row (record { ra = ra; target = some t }))
+      (λ h. rw (h, throughCalls)) (λ kr h. rw (h, throughCalls))
+
+  pub link-ra : (ra : ℕ) (k : Link) → linkAt row ra ≡ some k → k .ra ≡ ra
+  unfolding linkAt
+  link-ra ra k e =
+      by-option (row (back ra 1))
+      (λ h. absurd (Option·none-ne-some k (rw (h, linkAt) at e)))
+      (λ r h. by-option (r .spOff)
+      (λ q. absurd (Option·none-ne-some k (rw (h, linkAt, q) at e)))
+      (λ o q. sym (ap (λ (z : Link). z .ra) (Option·some-injective _ k (rw (h, linkAt, q) at e)))))
+
+  follow-ra : (c : Call) (ra : ℕ) (kr : Link × View) → followCall row ra c ≡ some kr → kr .0 ≡ record { ra = ra; off = kr .0 .off }
+  unfolding follow
+  follow-ra None ra kr e = absurd (Option·none-ne-some kr e)
+  follow-ra Indirect ra kr e = absurd (Option·none-ne-some kr e)
+  follow-ra (Direct t) ra kr e =
+      by-option (linkAt row ra)
+      (λ h. absurd (Option·none-ne-some kr (rw (h, follow) at e)))
+      (λ k h. by-option (row t)
+      (λ q. absurd (Option·none-ne-some kr (rw (h, follow, q) at e)))
+      (λ r q. by-bool (r .saves)
+      (λ y. absurd (Option·none-ne-some kr (rw (h, follow, q, y) at e)))
+      (λ y. let z : Path (Link × View) (k, r) kr = Option·some-injective _ kr (rw (h, follow, q, y) at e) in
+      subst (λ (v : Link × View). v .0 ≡ record { ra = ra; off = v .0 .off }) z (λ i. record { ra = link-ra ra k h i; off = k .off }))))
+
+  -- a chain has at most one link more than there are functions to go through
+  one-sized : (ra l n : ℕ) → Sized (suc n) (ok (one (linkAt row ra)) l)
+  one-sized ra l n ks m e =
+      by-option (linkAt row ra)
+      (λ h. absurd (let z : _≡_ {A = ℕ} 0 1 = cc in omega arith))
+      (λ k h. let q : ks ≡ k ∷ [] = cc in rw q (omega arith, omega arith))
+
+  through-sized : (deeper : ℕ → ℕ → ℕ → Out (Option (List Link))) (n : ℕ) → ((s e l : ℕ) → Sized n (deeper s e l)) → (fs : List Listed) (l : ℕ)
+      → Sized (suc n) (throughCalls row deeper fs l)
+  unfolding throughCalls andThen
+  through-sized deeper n d [] l = none-sized l (suc n)
+  through-sized deeper n d (f ∷ fs) l =
+      by-option (follow row f)
+      (λ h. rw (h, throughCalls) (through-sized deeper n d fs l))
+      (λ kr h. rw (h, throughCalls) (go kr (deeper (kr .1 .start) (kr .1 .end) l) (d (kr .1 .start) (kr .1 .end) l) (λ k. through-sized deeper n d fs k)))
+    where
+      go : (kr : Link × View) (o : Out (Option (List Link))) → Sized n o → ((k : ℕ) → Sized (suc n) (throughCalls row deeper fs k))
+          → Sized (suc n) (andThen o (λ c k. elim c [ some ks ↦ ok (some (kr .0 ∷ ks)) k | none ↦ throughCalls row deeper fs k ]))
+      go kr spent a b = λ ks m e. absurd (let z : _≡_ {A = ℕ} 0 1 = cc in omega arith)
+      go kr (ok none k) a b = b k
+      go kr (ok (some gs) k) a b = λ ks m e.
+          let q : ks ≡ kr .0 ∷ gs = cc in
+          let h : length gs ≤ n = a gs k refl .1 in
+          rw q (omega arith, omega arith)
+
+module _ (row : ℕ → Option View) (cb : ℕ → Call) (sz : ℕ → Option ℕ) where
+  pub chain-sized : (depth target start end l : ℕ) → Sized (suc depth) (chain row cb sz depth target start end l)
+  unfolding chain andThen
+  chain-sized zero target start end l = go (calls cb sz l end start)
+    where
+      go : (o : Out (List Listed)) → Sized 1 (andThen o (λ fs k. elim (straight target fs) [ some ra ↦ ok (one (linkAt row ra)) k | none ↦ ok none k ]))
+      go spent = λ ks m e. absurd (let z : _≡_ {A = ℕ} 0 1 = cc in omega arith)
+      go (ok fs k) = by-option (straight target fs) (λ h. rw (h, andThen) (none-sized k 1)) (λ ra h. rw (h, andThen) (one-sized row ra k 0))
+  chain-sized (suc d) target start end l = go (calls cb sz l end start) (λ fs k. through-sized row (chain row cb sz d target) (suc d) (λ s e m. chain-sized d target s e m) fs k)
+    where
+      go : (o : Out (List Listed)) → ((fs : List Listed) (k : ℕ) → Sized (suc (suc d)) (throughCalls row (chain row cb sz d target) fs k))
+          → Sized (suc (suc d)) (andThen o (λ fs k. elim (straight target fs) [ some ra ↦ ok (one (linkAt row ra)) k | none ↦ throughCalls row (chain row cb sz d target) fs k ]))
+      go spent t = λ ks m e. absurd (let z : _≡_ {A = ℕ} 0 1 = cc in omega arith)
+      go (ok fs k) t = by-option (straight target fs) (λ h. rw (h, andThen) (t fs k)) (λ ra h. rw (h, andThen) (one-sized row ra k (suc d)))
+
+  -- at depth 0, and where the listing has a straight call or is spent, the listing settles the search
+  pub chain-zero : (depth target start end l : ℕ) (x : Listing) → depth ≡ 0 → x ≡ listingOf target (calls cb sz l end start)
+      → chain row cb sz depth target start end l ≡ settledBy row x
+  unfolding chain andThen
+  chain-zero depth target start end l x z e = rw (z, e) (go (calls cb sz l end start))
+    where
+      go : (o : Out (List Listed)) → andThen o (λ fs k. elim (straight target fs) [ some ra ↦ ok (one (linkAt row ra)) k | none ↦ ok none k ]) ≡ settledBy row (listingOf target o)
+      go spent = refl
+      go (ok fs k) = by-option (straight target fs) (λ h. rw (h, andThen)) (λ ra h. rw (h, andThen))
+
+  pub chain-settled : (depth target start end l : ℕ) (x : Listing) → ((k : ℕ) → x ≡ Other k → ⊥) → x ≡ listingOf target (calls cb sz l end start)
+      → chain row cb sz depth target start end l ≡ settledBy row x
+  unfolding chain andThen
+  chain-settled zero target start end l x n e = chain-zero zero target start end l x refl e
+  chain-settled (suc d) target start end l x n e = rw e (go (calls cb sz l end start) (λ k q. n k (e ∙ q)))
+    where
+      go : (o : Out (List Listed)) → ((k : ℕ) → listingOf target o ≡ Other k → ⊥)
+          → andThen o (λ fs k. elim (straight target fs) [ some ra ↦ ok (one (linkAt row ra)) k | none ↦ throughCalls row (chain row cb sz d target) fs k ]) ≡ settledBy row (listingOf target o)
+      go spent m = refl
+      go (ok fs k) m = by-option (straight target fs) (λ h. absurd (m k (rw h))) (λ ra h. rw (h, andThen))
+
+  module _ (depth target start end allowance : ℕ) where
+    -- what is still to be tried: the calls from pc on, `todo` instructions, with `left` of the allowance
+    pub record Ahead (todo pc left : ℕ) : Type 0 where
+      pub fs : List Listed
+      pub walks : calls cb sz todo end pc ≡ ok fs 0
+      pub rest : throughCalls row (chain row cb sz (depth - 1) target) fs left ≡ chain row cb sz depth target start end allowance
+
+    -- one instruction on
+    record Turn (todo left ra : ℕ) : Type 0 where
+      fs : List Listed
+      walks : calls cb sz (todo - 1) end ra ≡ ok fs 0
+      rest : on-from row (chain row cb sz (depth - 1) target) (followCall row ra (cb ra)) fs left ≡ chain row cb sz depth target start end allowance
+
+    started : (n : ℕ) (fs : List Listed) (k : ℕ) → ¬ (n ≡ 0) → calls cb sz allowance end start ≡ ok fs k → straight target fs ≡ none
+        → throughCalls row (chain row cb sz (n - 1) target) fs k ≡ chain row cb sz n target start end allowance
+    unfolding chain andThen
+    started zero fs k z q h = absurd (z refl)
+    started (suc d) fs k z q h = let m : suc d - 1 ≡ d = omega arith in rw (m, chain, q, andThen, h)
+
+    pub ahead-start : (after : ℕ) (x : Listing) → ¬ (depth ≡ 0) → x ≡ listingOf target (calls cb sz allowance end start) → x ≡ Other after
+        → (after ≤ allowance) × Ahead (allowance - after) start after
+    ahead-start after x z e h = go (calls cb sz allowance end start) refl
+      where
+        go : (o : Out (List Listed)) → calls cb sz allowance end start ≡ o → (after ≤ allowance) × Ahead (allowance - after) start after
+        go spent q = absurd (let z : _≡_ {A = ℕ} 0 1 = cc in omega arith)
+        go (ok fs k) q =
+            let y : listingBy (firstOf (straight target fs)) k ≡ Other after = sym (ap (λ (o : Out (List Listed)). listingOf target o) q) ∙ sym e ∙ h in
+            by-option (straight target fs)
+            (λ g. let v : k ≡ after = cc in
+            let t : Exact cb sz allowance end start fs after = calls-exact cb sz allowance end start fs after (q ∙ ap (λ (w : ℕ). ok fs w) v) in
+            (t .fits, record { fs = fs; walks = t .exact; rest = started depth fs after z (q ∙ ap (λ (w : ℕ). ok fs w) v) g }))
+            (λ ra g. absurd (let z : _≡_ {A = ℕ} 0 1 = cc in omega arith))
+
+    pub ahead-end : (todo pc left : ℕ) → Ahead todo pc left → todo ≤ 0 → ok none left ≡ chain row cb sz depth target start end allowance
+    unfolding throughCalls
+    ahead-end todo pc left a h =
+        let z : todo ≡ 0 = omega arith in
+        ap (λ (gs : List Listed). throughCalls row (chain row cb sz (depth - 1) target) gs left) (sym (none-listed cb sz todo end pc (a .fs) z (a .walks))) ∙ a .rest
+
+    pub ahead-reads : (todo pc left : ℕ) → Ahead todo pc left → 0 < todo → sizeOf (sz pc) ≡ Unreadable → ⊥
+    ahead-reads todo pc left a h u =
+        let k : todo ≡ 0 = by-bool (ltb pc end)
+        (λ t. ok-snd [] (a .fs) todo 0 (sym (calls-stuck cb sz todo end pc t (size-not (sz pc) u)) ∙ a .walks))
+        (λ t. ok-snd [] (a .fs) todo 0 (sym (calls-end cb sz todo end pc t) ∙ a .walks)) in
+        omega arith
+
+    ahead-turn : (todo pc left n : ℕ) → Ahead todo pc left → 0 < todo → sizeOf (sz pc) ≡ Is n → Turn todo left (plus pc n)
+    ahead-turn zero pc left n a h u = absurd (omega arith)
+    ahead-turn (suc t) pc left n a h u =
+        by-bool (ltb pc end)
+        (λ l. let i : Inside (noted (plus pc n) (cb (plus pc n))) (calls cb sz t end (plus pc n)) (a .fs) 0 = inside _ _ (a .fs) 0 (sym (calls-visit cb sz t end pc n l (size-is (sz pc) n u)) ∙ a .walks) in
+        let m : suc t - 1 ≡ t = omega arith in
+        record {
+          fs = i .inner;
+          walks = rw m (i .was);
+          rest = sym (through-noted row (chain row cb sz (depth - 1) target) (plus pc n) (cb (plus pc n)) (i .inner) left)
+              ∙ ap (λ (gs : List Listed). throughCalls row (chain row cb sz (depth - 1) target) gs left) (sym (i .made)) ∙ a .rest;
+        })
+        (λ l. absurd (let k : suc t ≡ 0 = ok-snd [] (a .fs) (suc t) 0 (sym (calls-end cb sz (suc t) end pc l) ∙ a .walks) in omega arith))
+
+    module _ (todo pc left n ra : ℕ) (a : Ahead todo pc left) (h : 0 < todo) (u : sizeOf (sz pc) ≡ Is n) (w : ra ≡ plus pc n) (x : Onward) (f : x ≡ onwardOf (followCall row ra (cb ra))) where
+      turned : Turn todo left ra
+      turned = subst⁻¹ (λ (z : ℕ). Turn todo left z) w (ahead-turn todo pc left n a h u)
+
+      pub ahead-skip : x ≡ No → Ahead (todo - 1) ra left
+      ahead-skip e =
+          let t : Turn todo left ra = turned in
+          by-option (followCall row ra (cb ra))
+          (λ q. record { fs = t .fs; walks = t .walks; rest = rw q at (t .rest) })
+          (λ kr q. absurd (let z : _≡_ {A = ℕ} 0 1 = cc in omega arith))
+
+      module _ (s e off d : ℕ) (to : x ≡ To s e off) (less : d ≡ depth - 1) (r : Searched) (g : r ≡ searchedOf (chain row cb sz d target s e left)) where
+        abbrev below : Out (Option (List Link))
+        below = chain row cb sz d target s e left
+
+        -- the turn, where the search below has been made
+        record Made : Type 0 where
+          kr : Link × View
+          link : kr .0 ≡ record { ra = ra; off = off }
+          fs : List Listed
+          walks : calls cb sz (todo - 1) end ra ≡ ok fs 0
+          rest : on-by row (chain row cb sz (depth - 1) target) kr fs below ≡ chain row cb sz depth target start end allowance
+
+        made : Made
+        made =
+            let t : Turn todo left ra = turned in
+            by-option (followCall row ra (cb ra))
+            (λ q. absurd (let z : _≡_ {A = ℕ} 0 1 = cc in omega arith))
+            (λ kr q.
+            let y : kr .1 .start ≡ s = cc in
+            let z : kr .1 .end ≡ e = cc in
+            let o : kr .0 .off ≡ off = cc in
+            record {
+              kr = kr;
+              link = follow-ra row (cb ra) ra kr q ∙ ap (λ (v : ℕ). record { ra = ra; off = v }) o;
+              fs = t .fs;
+              walks = t .walks;
+              rest = sym (on-out row (chain row cb sz (depth - 1) target) kr (t .fs) left below
+                  (ap (λ (v : ℕ). chain row cb sz (depth - 1) target v (kr .1 .end) left) y
+                  ∙ ap (λ (v : ℕ). chain row cb sz (depth - 1) target s v left) z
+                  ∙ ap (λ (v : ℕ). chain row cb sz v target s e left) (sym less))) ∙ (rw q at (t .rest));
+            })
+
+        by-below : (m : Made) (o : Out (Option (List Link))) → below ≡ o → on-by row (chain row cb sz (depth - 1) target) (m .kr) (m .fs) o ≡ chain row cb sz depth target start end allowance
+        by-below m o q = ap (λ (v : Out (Option (List Link))). on-by row (chain row cb sz (depth - 1) target) (m .kr) (m .fs) v) (sym q) ∙ m .rest
+
+        pub ahead-miss : r .outcome ≡ outcome.Missing → Ahead (todo - 1) ra (r .left)
+        ahead-miss m = let t : Made = made in record { fs = t .fs; walks = t .walks; rest = by-below t (ok none (r .left)) (was-missing r below g m) }
+
+        pub ahead-done : (r .outcome ≡ outcome.Missing → ⊥) → withLink r ra off ≡ searchedOf (chain row cb sz depth target start end allowance)
+        ahead-done n = go below refl
+          where
+            go : (o : Out (Option (List Link))) → below ≡ o → withLink r ra off ≡ searchedOf (chain row cb sz depth target start end allowance)
+            go spent q = ap (λ (v : Searched). withLink v ra off) (g ∙ ap searchedOf q) ∙ ap searchedOf (by-below made spent q)
+            go (ok none l) q = absurd (n (ap (λ (v : Searched). v .outcome) (g ∙ ap searchedOf q)))
+            go (ok (some ks) l) q =
+                ap (λ (v : Searched). withLink v ra off) (g ∙ ap searchedOf q)
+                ∙ with-link ks ra off l
+                ∙ ap (λ (k : Link). searchedOf (ok (some (k ∷ ks)) l)) (sym (made .link))
+                ∙ ap searchedOf (by-below made (ok (some ks) l) q)

@@ -1,0 +1,5 @@
+pub mod Links
+pub mod Chain
+pub mod Linking
+pub mod Scan
+pub mod Tags

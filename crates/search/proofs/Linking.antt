@@ -1,0 +1,112 @@
+-- What `link_at`, `follow` and `settled` come to on each way through the code. Assumes nothing.
+use Prim.Native.Nat.{ℕ}
+use mathlib.Core.Bool.{Bool, true, false}
+use mathlib.Core.List.{[], _∷_}
+use mathlib.Core.Option.{Option, none, some}
+use mathlib.Core.Path.{_≡_, refl, sym, ap, _∙_}
+use native.Mathlib.Omega.{arith}
+use Rattle.words.specs.Words.{back}
+use Rattle.words.proofs.Cases.{by-bool, by-option}
+use Rattle.rows.specs.View.{View}
+use Rattle.calls.specs.Listing.{ok}
+use Rattle.calls.specs.declared.Call.{Call}
+use Rattle.calls.specs.declared.Call.the-variants.{None, Indirect, Direct}
+use Rattle.calls.specs.declared.Listing.{Listing}
+use Rattle.calls.specs.declared.Listing.the-variants.{Straight}
+use Rattle.search.specs.Search.{Link, one, linkAt, follow}
+use Rattle.search.specs.Answers.{linksOf, linkOf, followCall, onwardOf, settledBy, noChain, withLink, searchedOf}
+use Rattle.search.specs.declared.LinkAt.{LinkAt}
+use Rattle.search.specs.declared.LinkAt.the-variants as link
+use Rattle.search.specs.declared.Onward.{Onward}
+use Rattle.search.specs.declared.Onward.the-variants.{To, No}
+use Rattle.search.specs.declared.Outcome.the-variants.{Found, Missing}
+use Rattle.search.specs.declared.Searched.{Searched}
+use Rattle.search.proofs.Links.{with-link}
+use Rattle.search.proofs.Chain.{link-ra}
+
+module _ (row : ℕ → Option View) (ra pc : ℕ) (w : pc ≡ back ra 1) where
+  pub link-missing : row pc ≡ none → link.NoLink ≡ linkOf (linkAt row ra)
+  unfolding linkAt
+  link-missing h = rw (rw w at h, linkAt)
+
+  pub link-unknown : (r : View) → row pc ≡ some r → r .spOff ≡ none → link.NoLink ≡ linkOf (linkAt row ra)
+  unfolding linkAt
+  link-unknown r h q = rw (rw w at h, linkAt, q)
+
+  pub link-is : (r : View) (o : ℕ) → row pc ≡ some r → r .spOff ≡ some o → link.Link o ≡ linkOf (linkAt row ra)
+  unfolding linkAt
+  link-is r o h q = rw (rw w at h, linkAt, q)
+
+abbrev unlessKept : Bool → View → ℕ → Onward
+unlessKept true r off = No
+unlessKept false r off = To (r .start) (r .end) off
+
+abbrev onwardBy : LinkAt → Option View → Onward
+onwardBy link.NoLink r = No
+onwardBy (link.Link off) none = No
+onwardBy (link.Link off) (some r) = unlessKept (r .saves) r off
+
+module _ (row : ℕ → Option View) (ra : ℕ) where
+  onward-by : (t : ℕ) → onwardOf (followCall row ra (Direct t)) ≡ onwardBy (linkOf (linkAt row ra)) (row t)
+  unfolding follow
+  onward-by t =
+      by-option (linkAt row ra)
+      (λ k. rw (k, follow))
+      (λ k g. by-option (row t)
+      (λ r. rw (g, follow, r))
+      (λ y r. by-bool (y .saves) (λ b. rw (g, follow, r, b)) (λ b. rw (g, follow, r, b))))
+
+  module _ (x y : Call) (e : x ≡ y) where
+    pub follow-other : ((t : ℕ) → x ≡ Direct t → ⊥) → No ≡ onwardOf (followCall row ra y)
+    follow-other n = rw (sym e) (go x n)
+      where
+        go : (v : Call) → ((t : ℕ) → v ≡ Direct t → ⊥) → No ≡ onwardOf (followCall row ra v)
+        go None m = refl
+        go Indirect m = refl
+        go (Direct t) m = absurd (m t refl)
+
+    module _ (t : ℕ) (h : x ≡ Direct t) (l : LinkAt) (p : l ≡ linkOf (linkAt row ra)) where
+      direct : (o : Option View) → row t ≡ o → onwardBy l o ≡ onwardOf (followCall row ra y)
+      direct o q =
+          ap (λ (v : LinkAt). onwardBy v o) p ∙ ap (λ (v : Option View). onwardBy (linkOf (linkAt row ra)) v) (sym q)
+          ∙ sym (onward-by t) ∙ ap (λ (v : Call). onwardOf (followCall row ra v)) (sym h ∙ e)
+
+      pub follow-nolink : l ≡ link.NoLink → No ≡ onwardOf (followCall row ra y)
+      follow-nolink q = ap (λ (v : LinkAt). onwardBy v (row t)) (sym q) ∙ direct (row t) refl
+
+      module _ (off : ℕ) (q : l ≡ link.Link off) where
+        linked : (o : Option View) → row t ≡ o → onwardBy (link.Link off) o ≡ onwardOf (followCall row ra y)
+        linked o g = ap (λ (v : LinkAt). onwardBy v o) (sym q) ∙ direct o g
+
+        pub follow-norow : row t ≡ none → No ≡ onwardOf (followCall row ra y)
+        follow-norow g = linked none g
+
+        pub follow-saves : (r : View) → row t ≡ some r → r .saves ≡ true → No ≡ onwardOf (followCall row ra y)
+        follow-saves r g s = ap (λ (v : Bool). unlessKept v r off) (sym s) ∙ linked (some r) g
+
+        pub follow-to : (r : View) → row t ≡ some r → r .saves ≡ false → To (r .start) (r .end) off ≡ onwardOf (followCall row ra y)
+        follow-to r g s = ap (λ (v : Bool). unlessKept v r off) (sym s) ∙ linked (some r) g
+
+pub settled-as : (row : ℕ → Option View) (x y : Listing) → x ≡ y → searchedOf (settledBy row y) ≡ searchedOf (settledBy row x)
+settled-as row x y e = ap (λ (z : Listing). searchedOf (settledBy row z)) (sym e)
+
+module _ (row : ℕ → Option View) (x : Listing) (ra left : ℕ) (e : x ≡ Straight ra left) (l : LinkAt) (p : l ≡ linkOf (linkAt row ra)) where
+  by-link : settledBy row x ≡ ok (one (linkAt row ra)) left
+  by-link = ap (λ (y : Listing). settledBy row y) e
+
+  pub settled-none : l ≡ link.NoLink → noChain Missing left ≡ searchedOf (settledBy row x)
+  settled-none q =
+      by-option (linkAt row ra)
+      (λ h. sym (ap searchedOf by-link ∙ rw h))
+      (λ k h. absurd (let z : _≡_ {A = ℕ} 0 1 = cc in omega arith))
+
+  pub settled-one : (off : ℕ) → l ≡ link.Link off → (s : Searched) → s ≡ noChain Found left → withLink s ra off ≡ searchedOf (settledBy row x)
+  unfolding linksOf
+  settled-one off q s g =
+      by-option (linkAt row ra)
+      (λ h. absurd (let z : _≡_ {A = ℕ} 0 1 = cc in omega arith))
+      (λ k h.
+      let o : off ≡ k .off = cc in
+      let i : record { ra = ra; off = off } ≡ k = (λ j. record { ra = sym (link-ra row ra k h) j; off = o j }) in
+      ap (λ (v : Searched). withLink v ra off) g ∙ with-link [] ra off left
+      ∙ ap (λ (v : Link). searchedOf (ok (some (v ∷ [])) left)) i ∙ sym (ap searchedOf by-link ∙ rw h))

@@ -1,0 +1,64 @@
+use Rattle.book.specs.Book.{bookOf}
+use Rattle.calls.proofs.Calls.{not-direct}
+use Rattle.rows.proofs.Views.{view-nothing, view-here}
+use Rattle.search.proofs.Linking.{follow-other, follow-nolink, follow-norow, follow-saves, follow-to}
+use borrow.Author.Needs.{needs}
+use Rattle.search.proofs.follow.Statement.{statement}
+use Rattle.search.proofs.follow.Tie as tie
+
+call-before-requires : tie.Need-call-before-requires
+call-before-requires c κs = search needs
+
+enum-known-callee : tie.Need-enum-known-callee
+enum-known-callee c = search needs
+
+returns : tie.Need-returns
+returns c = follow-other _ _ _ _ (c .before .call-before .ensures) (not-direct _ (c .match .keys2))
+
+link-at-requires : tie.Need-link-at-requires
+link-at-requires c κs = search needs
+
+enum-known-off : tie.Need-enum-known-off
+enum-known-off c = search needs
+
+enum-told : tie.Need-enum-told
+enum-told c = search needs
+
+returns-2 : tie.Need-returns-2
+returns-2 c = follow-nolink _ _ _ _ (c .before .before .before .before .before .before .call-before .ensures) _ (c .before .before .before .before .callee .given .1) _ (c .before .before .link-at .ensures) (c .enum-told .given .1)
+
+row-for-requires : tie.Need-row-for-requires
+row-for-requires c κs = search needs
+
+enum-known-entry : tie.Need-enum-known-entry
+enum-known-entry c = search needs
+
+enum-told-2 : tie.Need-enum-told-2
+enum-told-2 c = search needs
+
+returns-3 : tie.Need-returns-3
+returns-3 c = follow-norow _ _ _ _ (c .before .before .before .before .before .before .before .before .before .before .call-before .ensures) _ (c .before .before .before .before .before .before .before .before .callee .given .1) _ (c .before .before .before .before .before .before .link-at .ensures) _ (c .before .before .before .before .off .given .1) (view-nothing (bookOf _ _ _ _) _ _ (c .before .before .row-for .ensures) (c .enum-told2 .given .1))
+
+returns-4 : tie.Need-returns-4
+returns-4 c = follow-saves _ _ _ _ (c .before .before .before .before .before .before .before .before .before .before .before .before .call-before .ensures) _ (c .before .before .before .before .before .before .before .before .before .before .callee .given .1) _ (c .before .before .before .before .before .before .before .before .link-at .ensures) _ (c .before .before .before .before .before .before .off .given .1) _ (view-here (bookOf _ _ _ _) _ _ (c .before .before .before .before .row-for .ensures) _ (c .before .before .entry .given .1)) (c .if1 .taken)
+
+returns-5 : tie.Need-returns-5
+returns-5 c = follow-to _ _ _ _ (c .before .before .before .before .before .before .before .before .before .before .before .before .call-before .ensures) _ (c .before .before .before .before .before .before .before .before .before .before .callee .given .1) _ (c .before .before .before .before .before .before .before .before .link-at .ensures) _ (c .before .before .before .before .before .before .off .given .1) _ (view-here (bookOf _ _ _ _) _ _ (c .before .before .before .before .row-for .ensures) _ (c .before .before .entry .given .1)) (c .if1 .left)
+
+pub follow-spec : {M : Type 1} → statement M
+follow-spec =
+    tie.close
+    (tie.spec
+    call-before-requires
+    enum-known-callee
+    returns
+    link-at-requires
+    enum-known-off
+    enum-told
+    returns-2
+    row-for-requires
+    enum-known-entry
+    enum-told-2
+    returns-3
+    returns-4
+    returns-5)
