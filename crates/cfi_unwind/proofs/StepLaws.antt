@@ -25,7 +25,7 @@ use Rattle.search.specs.Recover.{ruleFor}
 use Rattle.search.specs.Answers.{ruleMade, ruleOf}
 use Rattle.search.specs.declared.RuleAt.{RuleAt}
 use Rattle.search.specs.declared.RuleAt.the-variants.{NoRule}
-use Rattle.rows.proofs.Views as views
+use Rattle.rows.proofs.Views as below
 use Rattle.cfi_unwind.specs.declared.Stop.{Stop}
 use Rattle.cfi_unwind.specs.declared.Stop.the-variants.{MemoryUnavailable, Unsupported}
 use Rattle.cfi_unwind.specs.declared.Cfa.{Cfa}
@@ -56,11 +56,11 @@ module _ (read : ℕ → Option ℕ) (f : Regs) (cfa : ℕ) (rules : List ℕ) (
       → reg ≡ ruleRegister rules k → kind ≡ ruleKind rules k → operand ≡ ruleOperand rules k
       → byRules read f cfa (ruleList rules (n - 1) (k + 1)) c ≡ byRules read f cfa (ruleList rules n k) b
   unfolding byRules
-  rules-next c reg kind operand h e r q o = rw (e, r, q, o, views.rules-turn rules n k h)
+  rules-next c reg kind operand h e r q o = rw (e, r, q, o, below.rules-turn rules n k h)
 
   pub rules-end : n ≤ 0 → byRules read f cfa (ruleList rules n k) b ≡ b
   unfolding byRules
-  rules-end h = rw (views.rules-end rules n k h)
+  rules-end h = rw (below.rules-end rules n k h)
 
 -- a rule that was found is for the register it was sought for
 rule-reg : (q : ℕ) (rs : List Rule) (u : Rule) → ruleFor q rs ≡ some u → u .reg ≡ q

@@ -3,3 +3,4 @@ pub mod Chain
 pub mod Linking
 pub mod Scan
 pub mod Tags
+pub mod Left
