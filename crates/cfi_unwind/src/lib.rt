@@ -23,6 +23,7 @@ ghost use Rattle.registers.specs.Registers.{reads, valueOf};
 ghost use Rattle.rows.specs.View.{rowSeen, ruleList, viewAt};
 ghost use Rattle.search.specs.Recover.{ruleFor, inner, scan};
 ghost use Rattle.search.specs.Answers.{ruleMade, linksIn};
+ghost use Rattle.cfi_unwind.specs.Stop.{stopNumber, stopValue};
 ghost use Rattle.cfi_unwind.specs.Step as spec;
 ghost use Rattle.cfi_unwind.specs.Walk as walk;
 ghost use Rattle.cfi_unwind.specs.Answers.{knownBy, cfaOf, steppedOf, stoppedAt, rebuiltOf, advancedOf, judgedOf, written, endedOf};
@@ -39,6 +40,42 @@ pub enum Stop {
     TooManyFrames,
     Inconsistent,
     BudgetSpent(u32),
+}
+
+impl Stop {
+    // The stop's number in document 01.
+    pub fn number(self) -> u32
+        ensures { λ r. ⌜ r ≡ stopNumber self ⌝ }
+    {
+        match self {
+            Stop::EndOfStack => 0,
+            Stop::ReturnAddressLost(_) => 1,
+            Stop::NoUnwindInfo(_) => 2,
+            Stop::MemoryUnavailable(_) => 3,
+            Stop::UnknownRegister(_) => 4,
+            Stop::Unsupported(_) => 5,
+            Stop::TooManyFrames => 6,
+            Stop::Inconsistent => 7,
+            Stop::BudgetSpent(_) => 8,
+        }
+    }
+
+    // The stop's value, 0 where it has none.
+    pub fn value(self) -> u32
+        ensures { λ r. ⌜ r ≡ stopValue self ⌝ }
+    {
+        match self {
+            Stop::EndOfStack => 0,
+            Stop::ReturnAddressLost(pc) => pc,
+            Stop::NoUnwindInfo(pc) => pc,
+            Stop::MemoryUnavailable(address) => address,
+            Stop::UnknownRegister(register) => register,
+            Stop::Unsupported(pc) => pc,
+            Stop::TooManyFrames => 0,
+            Stop::Inconsistent => 0,
+            Stop::BudgetSpent(pc) => pc,
+        }
+    }
 }
 
 // The frame address, or why there is none.

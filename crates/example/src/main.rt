@@ -3,10 +3,8 @@
 use cfi_unwind::Answer;
 use cfi_unwind::Stop;
 use registers::Registers;
-ghost use mathlib.Core.Path.{_≡_};
 ghost use Prim.Native.Nat.{_+_, _*_, _≤_};
 ghost use lib.ListN.{length};
-ghost use Rattle.cfi_unwind.specs.Stop.{stopNumber, stopValue};
 
 const FUNCTIONS: [u32; 16] = [
     0x4200_0000,
@@ -130,40 +128,6 @@ const CODE: [u8; 44] = [
 
 const WORDS: [u32; 4] = [0, 0, 0, 0x4200_0028];
 
-// The number of a stop.
-fn number(stop: Stop) -> u32
-    ensures { λ r. ⌜ r ≡ stopNumber stop ⌝ }
-{
-    match stop {
-        Stop::EndOfStack => 0,
-        Stop::ReturnAddressLost(_) => 1,
-        Stop::NoUnwindInfo(_) => 2,
-        Stop::MemoryUnavailable(_) => 3,
-        Stop::UnknownRegister(_) => 4,
-        Stop::Unsupported(_) => 5,
-        Stop::TooManyFrames => 6,
-        Stop::Inconsistent => 7,
-        Stop::BudgetSpent(_) => 8,
-    }
-}
-
-// The value of a stop.
-fn value(stop: Stop) -> u32
-    ensures { λ r. ⌜ r ≡ stopValue stop ⌝ }
-{
-    match stop {
-        Stop::EndOfStack => 0,
-        Stop::ReturnAddressLost(pc) => pc,
-        Stop::NoUnwindInfo(pc) => pc,
-        Stop::MemoryUnavailable(address) => address,
-        Stop::UnknownRegister(register) => register,
-        Stop::Unsupported(pc) => pc,
-        Stop::TooManyFrames => 0,
-        Stop::Inconsistent => 0,
-        Stop::BudgetSpent(pc) => pc,
-    }
-}
-
 // Prints frame k.
 fn print_frame(frames: &[u32], k: usize)
     requires { ⌜ 4 * k + 4 ≤ length (now frames) ⌝ }
@@ -182,9 +146,9 @@ fn print_frame(frames: &[u32], k: usize)
 // Prints the stop and the number of instructions visited.
 fn print_end(stop: Stop, used: u32) {
     io::write_all(1, b"stop=");
-    io::print_decimal(1, number(stop) as u64);
+    io::print_decimal(1, stop.number() as u64);
     io::write_all(1, b",");
-    io::print_hex(1, value(stop) as u64, 8);
+    io::print_hex(1, stop.value() as u64, 8);
     io::write_all(1, b"\nused=");
     io::print_decimal(1, used as u64);
     io::write_all(1, b"\n");
