@@ -7,10 +7,9 @@ use lib.ListN.{length, replicate}
 use Rattle.words.specs.Words.{back}
 use Rattle.registers.specs.declared.Registers.{Registers}
 use Rattle.registers.specs.Registers.{setOf}
-use Rattle.memory.specs.declared.StackMemory.{StackMemory}
 use Rattle.memory.specs.declared.Pushed.{Pushed}
 use Rattle.memory.specs.declared.Pushed.the-variants.{Grown, Full as NoRoom}
-use Rattle.memory.specs.Push.{hasRoom, pushed, segmentsAfter, storedFrom}
+use Rattle.memory.specs.Push.{nothingYet, hasRoom, pushed, segmentsAfter, storedFrom}
 use Rattle.esp_backtrace.specs.Parse.{littleAt}
 use Rattle.esp_backtrace.specs.declared.Parsed.{Parsed}
 use Rattle.esp_backtrace.specs.declared.Parsed.the-variants.{Found, Nothing}
@@ -36,10 +35,6 @@ registersOf d =
     setOf
     (record { pc = d .pc; «pc_is_return_address» = true; «sp_is_placeholder» = d .sp .«is_placeholder»; mask = 0; values = replicate 32 0 }) 2
     (d .sp .value)
-
--- a memory that holds nothing yet
-abbrev pub nothingYet : StackMemory
-nothingYet = record { words = 0; segments = 0 }
 
 -- the answer where the words were pushed
 abbrev pub completed : ℕ → Sp → Pushed → Line

@@ -9,6 +9,10 @@ use Rattle.memory.specs.declared.StackMemory.{StackMemory}
 use Rattle.memory.specs.declared.Pushed.{Pushed}
 use Rattle.memory.specs.declared.Pushed.the-variants.{Grown, Full}
 
+-- a memory that holds nothing yet
+abbrev pub nothingYet : StackMemory
+nothingYet = record { words = 0; segments = 0 }
+
 -- the address after segment k: base + 4 * word count
 unfoldable pub segmentEnd : List ℕ → ℕ → ℕ
 segmentEnd segments k = plus (field segments 2 k 0) (4 * field segments 2 k 1)
