@@ -52,3 +52,8 @@ module _ (m : Memory) (a : ℕ) (h : a < 2 ^ 32) (x : Word) (e : x ≡ wordAt m 
 
   pub read-is : (v : ℕ) → x ≡ Is v → readAt m a ≡ some v
   read-is v q = read-seen ∙ ap wordSeen q
+
+-- a good memory has no more words than the cap
+pub words-upto : (m : Memory) → memoryIsGood m ≡ true → length (m .words) ≤ 16384
+unfolding memoryIsGood
+words-upto m g = leb-true _ _ (every-at _ 1 g)

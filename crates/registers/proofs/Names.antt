@@ -17,13 +17,13 @@ use Rattle.registers.specs.Registers.{valueOf, registerNames, same, isNa
 use Rattle.registers.specs.declared.Value.the-variants.{Known, Unknown}
 
 -- the text ends at a 0, and at the entry's end
-text-end : (e : List ℕ) (i : ℕ) → getD e i 0 ≡ 0 → textOf (drop i e) ≡ []
+pub text-end : (e : List ℕ) (i : ℕ) → getD e i 0 ≡ 0 → textOf (drop i e) ≡ []
 unfolding textOf
 text-end [] i h = rw (drop-nil i, textOf)
 text-end (x ∷ e) zero h = rw (eq-eqb x 0 h, textOf)
 text-end (x ∷ e) (suc i) h = text-end e i h
 
-text-more : (e : List ℕ) (i : ℕ) → getD e i 0 ≢ 0 → textOf (drop i e) ≡ getD e i 0 ∷ textOf (drop (suc i) e)
+pub text-more : (e : List ℕ) (i : ℕ) → getD e i 0 ≢ 0 → textOf (drop i e) ≡ getD e i 0 ∷ textOf (drop (suc i) e)
 unfolding textOf
 text-more [] i h = absurd (h refl)
 text-more (x ∷ e) zero h = rw (ne-eqb x 0 h, textOf)

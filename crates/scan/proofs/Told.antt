@@ -1,0 +1,73 @@
+-- What an answer of `next_pair` and of `stack_line` tells, and that each word counted is one. Assumes nothing.
+use Prim.Native.Nat.{ℕ, _-_, _≤_, _<_}
+use mathlib.Core.Path.{_≡_, sym, _∙_}
+use mathlib.Core.Bool.{true, false, not}
+use mathlib.Core.List.{List}
+use native.Mathlib.Omega.{arith}
+use lib.Dec.{ltb}
+use lib.ListN.{length, getD}
+use borrow.Author.Tests.{ltb-true, le-ltb}
+use Rattle.words.proofs.Laws.{first-from, first-upto}
+use Rattle.words.proofs.Cases.{by-bool}
+use Rattle.chars.specs.declared.Class.the-variants.{Name}
+use Rattle.chars.specs.Classes.{isIn}
+use Rattle.scan.specs.declared.Pair.the-variants.{At, None}
+use Rattle.scan.specs.declared.StackLine.the-variants.{Data, Other}
+use Rattle.scan.specs.Places.{past, hexNumber}
+use Rattle.scan.specs.Pairs.{isPair, pairPlace, pairAt, nextPair}
+use Rattle.scan.specs.Stack.{isWord, afterWords, wordCount, isStackLine, stackLine}
+use Rattle.scan.proofs.Firsts.{first-before}
+
+-- what an answer of `next_pair` tells
+module _ (s : List ℕ) (at : ℕ) where
+  pub told-none : None ≡ nextPair s at → ltb (pairPlace s at) (length s) ≡ false
+  unfolding nextPair pairAt
+  told-none z =
+      by-bool (ltb (pairPlace s at) (length s)) (λ y. let w : None ≡ pairAt s (pairPlace s at) = rw y at z in cc) (λ y. y)
+
+  -- at the line's end there is none
+  pub none-left : length s ≤ at → None ≡ nextPair s at
+  unfolding nextPair pairPlace
+  none-left h = rw (le-ltb (pairPlace s at) (length s) (omega (arith, first-from (isPair s) (length s - at) at)))
+
+  module _ (a e v n : ℕ) (z : At a e v n ≡ nextPair s at) where
+    pub told-pair : ltb (pairPlace s at) (length s) ≡ true
+    unfolding nextPair
+    told-pair = by-bool (ltb (pairPlace s at) (length s)) (λ y. y) (λ y. let w : At a e v n ≡ None = rw y at z in cc)
+
+    told-at : At a e v n ≡ pairAt s (pairPlace s at)
+    unfolding nextPair
+    told-at = rw told-pair at z
+
+    -- the name lies within the line
+    pub name-from : a ≤ e
+    unfolding pairAt past
+    name-from =
+        let p : a ≡ pairPlace s at = cc told-at in
+        let q : e ≡ past Name s (pairPlace s at) = cc told-at in
+        omega (arith, first-from (λ k. not (isIn Name (getD s k 0))) (length s - pairPlace s at) (pairPlace s at))
+
+    pub name-within : e ≤ length s
+    unfolding pairAt past
+    name-within =
+        let q : e ≡ past Name s (pairPlace s at) = cc told-at in
+        omega (
+          arith,
+          ltb-true (pairPlace s at) (length s) told-pair,
+          first-upto (λ k. not (isIn Name (getD s k 0))) (length s - pairPlace s at) (pairPlace s at),
+        )
+
+-- the words that a stack line is said to have are those that stand there
+pub told-count : (s : List ℕ) (address count : ℕ) → Data address count ≡ stackLine s → count ≡ wordCount s 9
+unfolding stackLine
+told-count s address count z =
+    by-bool (isStackLine s) (λ y. let w : Data address count ≡ Data (hexNumber s 0 8) (wordCount s 9) = rw y at z in cc)
+    (λ y. let w : Data address count ≡ Other = rw y at z in cc)
+
+-- each of the words counted is one
+pub counted : (s : List ℕ) (p k : ℕ) → k < wordCount s p → isWord s (afterWords s p k) ≡ true
+unfolding wordCount
+counted s p k h =
+    by-bool (isWord s (afterWords s p k)) (λ y. y)
+    (λ y. let w : not (isWord s (afterWords s p k)) ≡ false = first-before (λ j. not (isWord s (afterWords s p j))) (length s) 0 k (omega arith) h in
+    let q : true ≡ false = rw y at w in y ∙ sym q)
