@@ -1,0 +1,70 @@
+-- Copying the registers out of 36 words, and each answer as numbers. Assumes nothing.
+use Prim.Native.Nat.{ℕ, _+_, _<_, _≤_}
+use mathlib.Core.Bool.{true, false, not}
+use mathlib.Core.List.{List, [], _∷_}
+use mathlib.Core.Path.{_≡_, refl, sym, _∙_}
+use native.Mathlib.Numerals.{add-one}
+use native.Mathlib.Omega.{arith}
+use lib.Dec.{eqb}
+use lib.ListN.{length, getD, set, take, drop, length-drop}
+use lib.Seq.{take-suc, take-suc-set, take-all, getD-drop}
+use Rattle.book.specs.Book.{Book}
+use Rattle.book.specs.Good.{bookIsGood}
+use Rattle.code.specs.Code.{Code}
+use Rattle.memory.specs.Memory.{Memory}
+use Rattle.registers.specs.declared.Registers.{Registers}
+use Rattle.refusal.specs.Refusal.{refusalNumber}
+use Rattle.refusal.specs.declared.Refusal.{Refusal}
+use Rattle.cfi_unwind.specs.Unwind.{answerOf, framesOf}
+use Rattle.cfi_unwind.specs.Stop.{stopNumber, stopValue}
+use Rattle.cfi_unwind.specs.declared.Stop.{Stop}
+use Rattle.cfi_unwind.specs.declared.Answer.{Answer}
+use Rattle.cfi_unwind.specs.declared.Answer.the-variants.{Refused, Walked}
+use Rattle.exports.specs.Exports.{registersIn, numberOf, walkedOf, bookNumber}
+
+-- one more value is copied
+pub copied : (w values : List ℕ) (i : ℕ) → length w ≡ 36 → length values ≡ 32 → i < 32 → take i values ≡ take i (drop 4 w)
+    → take (i + 1) (set values i (getD w (4 + i) 0)) ≡ take (i + 1) (drop 4 w)
+copied w values i lw lv h e =
+    let a : i < length values = omega arith in
+    let b : i < length (drop 4 w) = simp length-drop (omega arith) in
+    rw (add-one, take-suc-set values i (getD w (4 + i) 0) a, take-suc (drop 4 w) i 0 b, getD-drop 4 w i 0, e)
+
+-- all values are copied
+pub copied-all : (w values : List ℕ) (i : ℕ) → length values ≡ 32 → 32 ≤ i → take i values ≡ take i (drop 4 w) → length w ≡ 36
+    → values ≡ take 32 (drop 4 w)
+copied-all w values i lv h e lw =
+    let a : length values ≤ i = omega arith in
+    let b : length (drop 4 w) ≤ i = simp length-drop (omega arith) in
+    let d : length (drop 4 w) ≤ 32 = simp length-drop (omega arith) in
+    sym (take-all i values a) ∙ e ∙ take-all i (drop 4 w) b ∙ sym (take-all 32 (drop 4 w) d)
+
+pub good-number : (b : Book) → bookIsGood b ≡ true → 0 ≡ bookNumber b
+unfolding bookNumber
+good-number b e = rw (e, bookNumber)
+
+pub bad-number : (b : Book) → bookIsGood b ≡ false → 4 ≡ bookNumber b
+unfolding bookNumber
+bad-number b e = rw (e, bookNumber)
+
+-- the registers, once their values are copied
+pub handed-over : (w values : List ℕ) → values ≡ take 32 (drop 4 w)
+    → record { pc = getD w 0 0; «pc_is_return_address» = not (eqb (getD w 1 0) 0); «sp_is_placeholder» = not (eqb (getD w 2 0) 0); mask = getD w 3 0; values = values }
+    ≡ registersIn w
+unfolding registersIn
+handed-over w values e = rw e
+
+-- the answer by the registers that were handed over
+module _ (b : Book) (c : Code) (m : Memory) (s t : Registers) (limit allowance : ℕ) (list frames : List ℕ) (a : Answer) (h : s ≡ t)
+    (e : (a ≡ answerOf b c m s limit allowance (length list)) × (frames ≡ framesOf b c m s limit allowance list)) where
+  pub refused : (r : Refusal) (n : ℕ) (words : List ℕ) → a ≡ Refused r → n ≡ refusalNumber r
+      → (n ≡ numberOf (answerOf b c m t limit allowance (length list))) × (frames ≡ framesOf b c m t limit allowance list)
+      × (words ≡ walkedOf (answerOf b c m t limit allowance (length list)) words)
+  unfolding numberOf walkedOf
+  refused r n words q k = rw (← h, ← e .0, q) (k, e .1, refl)
+
+  pub walked : (count : ℕ) (stop : Stop) (used number value : ℕ) (words : List ℕ) → a ≡ Walked count stop used → number ≡ stopNumber stop → value ≡ stopValue stop
+      → (0 ≡ numberOf (answerOf b c m t limit allowance (length list))) × (frames ≡ framesOf b c m t limit allowance list)
+      × (count ∷ number ∷ value ∷ used ∷ [] ≡ walkedOf (answerOf b c m t limit allowance (length list)) words)
+  unfolding numberOf walkedOf
+  walked count stop used number value words q k v = rw (← h, ← e .0, q, ← k, ← v) (refl, e .1, refl)
