@@ -20,7 +20,10 @@ use Rattle.cfi_unwind.specs.Stop.{stopNumber, stopValue}
 use Rattle.cfi_unwind.specs.declared.Stop.{Stop}
 use Rattle.cfi_unwind.specs.declared.Answer.{Answer}
 use Rattle.cfi_unwind.specs.declared.Answer.the-variants.{Refused, Walked}
-use Rattle.exports.specs.Exports.{registersIn, numberOf, walkedOf, bookNumber}
+use Rattle.backtrace_text.specs.Backtrace.{printedOf, textAfter}
+use Rattle.backtrace_text.specs.declared.Printed.{Printed}
+use Rattle.backtrace_text.specs.declared.Printed.the-variants as printed
+use Rattle.exports.specs.Exports.{registersIn, numberOf, walkedOf, bookNumber, printedNumber, writtenBy}
 
 -- one more value is copied
 pub copied : (w values : List ℕ) (i : ℕ) → length w ≡ 36 → length values ≡ 32 → i < 32 → take i values ≡ take i (drop 4 w)
@@ -68,3 +71,18 @@ module _ (b : Book) (c : Code) (m : Memory) (s t : Registers) (limit allowance :
       × (count ∷ number ∷ value ∷ used ∷ [] ≡ walkedOf (answerOf b c m t limit allowance (length list)) words)
   unfolding numberOf walkedOf
   walked count stop used number value words q k v = rw (← h, ← e .0, q, ← k, ← v) (refl, e .1, refl)
+
+-- the text by the registers that were handed over
+module _ (b : Book) (c : Code) (m : Memory) (s t : Registers) (allowance : ℕ) (text after : List ℕ) (a : Printed) (h : s ≡ t)
+    (e : (a ≡ printedOf b c m s allowance (length text)) × (after ≡ textAfter b c m s allowance text)) where
+  pub text-refused : (r : Refusal) (n : ℕ) (words : List ℕ) → a ≡ printed.Refused r → n ≡ refusalNumber r
+      → (n ≡ printedNumber (printedOf b c m t allowance (length text))) × (after ≡ textAfter b c m t allowance text)
+      × (words ≡ writtenBy (printedOf b c m t allowance (length text)) words)
+  unfolding printedNumber writtenBy
+  text-refused r n words q k = rw (← h, ← e .0, q) (k, e .1, refl)
+
+  pub text-put : (n : ℕ) (words : List ℕ) → a ≡ printed.Text n
+      → (0 ≡ printedNumber (printedOf b c m t allowance (length text))) × (after ≡ textAfter b c m t allowance text)
+      × (n ∷ [] ≡ writtenBy (printedOf b c m t allowance (length text)) words)
+  unfolding printedNumber writtenBy
+  text-put n words q = rw (← h, ← e .0, q) (refl, e .1, refl)

@@ -9,6 +9,8 @@ use Rattle.book.specs.Good.{bookIsGood}
 use Rattle.registers.specs.declared.Registers.{Registers}
 use Rattle.refusal.specs.Refusal.{refusalNumber}
 use Rattle.refusal.specs.declared.Refusal.the-variants.{BadBook}
+use Rattle.backtrace_text.specs.declared.Printed.{Printed}
+use Rattle.backtrace_text.specs.declared.Printed.the-variants as printed
 use Rattle.cfi_unwind.specs.Stop.{stopNumber, stopValue}
 use Rattle.cfi_unwind.specs.declared.Answer.{Answer}
 use Rattle.cfi_unwind.specs.declared.Answer.the-variants.{Refused, Walked}
@@ -37,3 +39,13 @@ walkedOf (Walked count stop used) words = count ∷ stopNumber stop ∷ stopValu
 -- 0 for a good book, else the refusal's number
 unfoldable pub bookNumber : Book → ℕ
 bookNumber b = elim (bookIsGood b) [ true ↦ 0 | false ↦ refusalNumber BadBook ]
+
+-- what the text call returns: 0, or the refusal's number
+unfoldable pub printedNumber : Printed → ℕ
+printedNumber (printed.Refused r) = refusalNumber r
+printedNumber (printed.Text n) = 0
+
+-- the word after the text call: how many bytes the text has; a refusal changes nothing
+unfoldable pub writtenBy : Printed → List ℕ → List ℕ
+writtenBy (printed.Refused r) words = words
+writtenBy (printed.Text n) words = n ∷ []
