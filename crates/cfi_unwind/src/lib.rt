@@ -643,7 +643,7 @@ fn put_rebuilt(frames: &mut [u32], n: u32, links: [u32; 18], count: u32, cfa: u3
 }
 
 // A flag as a word.
-fn flag(b: bool) -> u32
+pub fn flag(b: bool) -> u32
     ensures { λ r. ⌜ r ≡ walk.flag b ⌝ }
 {
     if b { 1 } else { 0 }

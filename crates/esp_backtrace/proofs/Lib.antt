@@ -1,3 +1,4 @@
 pub mod Trim
 pub mod Numbers
 pub mod Dumps
+pub mod Kept

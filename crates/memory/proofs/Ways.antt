@@ -12,7 +12,7 @@ use Rattle.words.proofs.Laws.{and-left, every-at}
 use Rattle.words.proofs.Cases.{by-bool}
 use Rattle.memory.specs.declared.StackMemory.{StackMemory}
 use Rattle.memory.specs.declared.Pushed.the-variants.{Grown, Full}
-use Rattle.memory.specs.Push.{segmentEnd, joins, segmentsThen, hasRoom, pushed, added, storedFrom}
+use Rattle.memory.specs.Push.{segmentEnd, joins, segmentsThen, hasRoom, pushed, added, segmentsAfter, storedFrom}
 
 module _ (s : List ℕ) (n addr : ℕ) where
   by-joins : (b : Bool) → joins s n addr ≡ b → segmentsThen s n addr ≡ cond b n (n + 1)
@@ -98,3 +98,8 @@ module _ (m : StackMemory) (addr count room : ℕ) (s : List ℕ) where
   pub told-grown : (g : StackMemory) → Grown g ≡ pushed m addr count room s → hasRoom m addr count room s ≡ true
   unfolding pushed
   told-grown g z = by-bool (hasRoom m addr count room s) (λ y. y) (λ y. let w : Grown g ≡ Full = rw y at z in cc)
+
+-- nothing is stored of what does not fit
+pub full-segments : (m : StackMemory) (addr count room : ℕ) (s : List ℕ) → hasRoom m addr count room s ≡ false → segmentsAfter m addr count room s ≡ s
+unfolding segmentsAfter
+full-segments m addr count room s e = rw e

@@ -1,22 +1,22 @@
--- What an answer of `next_pair` and of `stack_line` tells, and that each word counted is one. Assumes nothing.
-use Prim.Native.Nat.{ℕ, _-_, _≤_, _<_}
+-- What an answer of `next_pair` and of `stack_line` tells, that each word counted is one, and what a line's first byte tells. Assumes nothing.
+use Prim.Native.Nat.{ℕ, _+_, _-_, _≤_, _<_}
 use mathlib.Core.Path.{_≡_, sym, _∙_}
 use mathlib.Core.Bool.{true, false, not}
 use mathlib.Core.List.{List}
 use native.Mathlib.Omega.{arith}
-use lib.Dec.{ltb}
+use lib.Dec.{eqb, ltb, leb}
 use lib.ListN.{length, getD}
-use borrow.Author.Tests.{ltb-true, le-ltb}
-use Rattle.words.proofs.Laws.{first-from, first-upto}
+use borrow.Author.Tests.{eqb-true, ltb-true, le-ltb}
+use Rattle.words.proofs.Laws.{first-from, first-upto, and-right, all-at, every-false}
 use Rattle.words.proofs.Cases.{by-bool}
 use Rattle.chars.specs.declared.Class.the-variants.{Name}
-use Rattle.chars.specs.Classes.{isIn}
+use Rattle.chars.specs.Classes.{isIn, hexValue}
 use Rattle.scan.specs.declared.Pair.the-variants.{At, None}
 use Rattle.scan.specs.declared.StackLine.the-variants.{Data, Other}
-use Rattle.scan.specs.Places.{past, hexNumber}
+use Rattle.scan.specs.Places.{past, stands, hexEnd, hexNumber}
 use Rattle.scan.specs.Pairs.{isPair, pairPlace, pairAt, nextPair}
 use Rattle.scan.specs.Stack.{isWord, afterWords, wordCount, isStackLine, stackLine}
-use Rattle.scan.proofs.Firsts.{first-before}
+use Rattle.scan.proofs.Firsts.{first-here, first-before}
 
 -- what an answer of `next_pair` tells
 module _ (s : List ℕ) (at : ℕ) where
@@ -71,3 +71,18 @@ counted s p k h =
     by-bool (isWord s (afterWords s p k)) (λ y. y)
     (λ y. let w : not (isWord s (afterWords s p k)) ≡ false = first-before (λ j. not (isWord s (afterWords s p j))) (length s) 0 k (omega arith) h in
     let q : true ≡ false = rw y at w in y ∙ sym q)
+
+-- a line that starts with no hex digit is no stack line
+module _ (s : List ℕ) where
+  pub no-stack-line : leb 16 (hexValue (getD s 0 0)) ≡ true → stackLine s ≡ Other
+  unfolding stackLine isStackLine hexEnd
+  no-stack-line h =
+      let z : hexEnd s 0 ≡ 0 = first-here _ _ 0 h in
+      let n : isStackLine s ≡ false = every-false _ 0 (rw z) in
+      rw n
+
+  -- where a text stands at the start, its first byte does
+  pub first-byte : (text : List ℕ) → 0 < length text → stands text s 0 ≡ true → getD s 0 0 ≡ getD text 0 0
+  unfolding stands
+  first-byte text h e =
+      eqb-true _ _ (all-at (λ k. eqb (getD s (0 + k) 0) (getD text k 0)) (length text) 0 (and-right (leb (0 + length text) (length s)) _ e) h)
