@@ -81,12 +81,13 @@ abbrev pub stackFed : StackLine → List ℕ → ℕ → List ℕ → EspIdf →
 stackFed (line.Data address count) s room segments c = dataTaken c (pushed (c .stack) address count room segments)
 stackFed line.Other s room segments c = completed s room (length segments) c
 
--- what the collector makes of a line, in each state
+-- what the collector makes of a line, by its state
 abbrev pub fedIn : State → List ℕ → ℕ → List ℕ → EspIdf → Fed
 fedIn state.Idle s room segments c = passed Other (startOf s c)
 fedIn state.Registers s room segments c = passed Other (registersFed s c)
 fedIn state.Stack s room segments c = stackFed (stackLine s) s room segments c
 
+-- what the collector makes of a line
 unfoldable pub fed : List ℕ → ℕ → List ℕ → EspIdf → Fed
 fed s room segments c = fedIn (c .state) s room segments c
 
@@ -95,6 +96,7 @@ abbrev pub segmentsGrown : StackLine → ℕ → List ℕ → EspIdf → List �
 segmentsGrown (line.Data address count) room segments c = segmentsAfter (c .stack) address count room segments
 segmentsGrown line.Other room segments c = segments
 
+-- the lent segments then, by its state
 abbrev pub segmentsIn : State → List ℕ → ℕ → List ℕ → EspIdf → List ℕ
 segmentsIn state.Idle s room segments c = segments
 segmentsIn state.Registers s room segments c = segments
@@ -112,6 +114,7 @@ wordsGrown (line.Data address count) s words segments c =
     words
 wordsGrown line.Other s words segments c = words
 
+-- the lent words then, by its state
 abbrev pub wordsIn : State → List ℕ → List ℕ → List ℕ → EspIdf → List ℕ
 wordsIn state.Idle s words segments c = words
 wordsIn state.Registers s words segments c = words

@@ -70,11 +70,12 @@ movedTo pc s =
       values = s .values;
     }
 
--- a known pc makes the registers known, and is theirs
+-- where this is the program counter: a known one makes the registers known, and is theirs
 abbrev pub pcGiven : Value → EspIdf → EspIdf
 pcGiven (Known pc) c = knowing c (movedTo pc (registersThen c))
 pcGiven Unknown c = c
 
+-- a known program counter is the registers'
 unfoldable pub pcTaken : EspIdf → EspIdf
 pcTaken c = pcGiven (c .pc) c
 

@@ -87,7 +87,7 @@ fn is_blank(table: &[u8; 256], line: &[u8]) -> bool
     scan::skip(table, Class::Space, line, 0) == line.len()
 }
 
-// Stores the count words of a stack line from `to` on.
+// Stores the count words of a stack line from `to` on. They were counted, so that each is there.
 fn store_words(table: &[u8; 256], line: &[u8], count: usize, words: &mut [u32], to: usize)
     requires { ⌜ (now table ≡ classes) × (count ≤ wordCount (now line) 9) × (to + count ≤ length (now words)) ⌝ }
     ensures { λ _. ⌜ now (words .exit) ≡ storedFrom count (λ k. wordValue (now (line .entry)) (afterWords (now (line .entry)) 9 k)) (now (words .entry)) to ⌝ }
@@ -282,7 +282,7 @@ impl EspIdf {
         EspIdf::new()
     }
 
-    // The dump that ends with this line, which may start the next.
+    // The dump that ends with this line, which may start the next. Lists too short for the stack are not those that hold it.
     fn finish(self, table: &[u8; 256], line: &[u8], words: usize, segments: usize) -> Fed
         requires { ⌜ now table ≡ classes ⌝ }
         ensures { λ r. ⌜ r ≡ completed (now (line .entry)) words segments self ⌝ }

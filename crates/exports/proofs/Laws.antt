@@ -25,23 +25,6 @@ use Rattle.backtrace_text.specs.declared.Printed.{Printed}
 use Rattle.backtrace_text.specs.declared.Printed.the-variants as printed
 use Rattle.exports.specs.Exports.{registersIn, numberOf, walkedOf, bookNumber, printedNumber, writtenBy}
 
--- one more value is copied
-pub copied : (w values : List ℕ) (i : ℕ) → length w ≡ 36 → length values ≡ 32 → i < 32 → take i values ≡ take i (drop 4 w)
-    → take (i + 1) (set values i (getD w (4 + i) 0)) ≡ take (i + 1) (drop 4 w)
-copied w values i lw lv h e =
-    let a : i < length values = omega arith in
-    let b : i < length (drop 4 w) = simp length-drop (omega arith) in
-    rw (add-one, take-suc-set values i (getD w (4 + i) 0) a, take-suc (drop 4 w) i 0 b, getD-drop 4 w i 0, e)
-
--- all values are copied
-pub copied-all : (w values : List ℕ) (i : ℕ) → length values ≡ 32 → 32 ≤ i → take i values ≡ take i (drop 4 w) → length w ≡ 36
-    → values ≡ take 32 (drop 4 w)
-copied-all w values i lv h e lw =
-    let a : length values ≤ i = omega arith in
-    let b : length (drop 4 w) ≤ i = simp length-drop (omega arith) in
-    let d : length (drop 4 w) ≤ 32 = simp length-drop (omega arith) in
-    sym (take-all i values a) ∙ e ∙ take-all i (drop 4 w) b ∙ sym (take-all 32 (drop 4 w) d)
-
 pub good-number : (b : Book) → bookIsGood b ≡ true → 0 ≡ bookNumber b
 unfolding bookNumber
 good-number b e = rw (e, bookNumber)
@@ -49,13 +32,6 @@ good-number b e = rw (e, bookNumber)
 pub bad-number : (b : Book) → bookIsGood b ≡ false → 4 ≡ bookNumber b
 unfolding bookNumber
 bad-number b e = rw (e, bookNumber)
-
--- the registers, once their values are copied
-pub handed-over : (w values : List ℕ) → values ≡ take 32 (drop 4 w)
-    → record { pc = getD w 0 0; «pc_is_return_address» = not (eqb (getD w 1 0) 0); «sp_is_placeholder» = not (eqb (getD w 2 0) 0); mask = getD w 3 0; values = values }
-    ≡ registersIn w
-unfolding registersIn
-handed-over w values e = rw e
 
 -- the answer by the registers that were handed over
 module _ (b : Book) (c : Code) (m : Memory) (s t : Registers) (limit allowance : ℕ) (list frames : List ℕ) (a : Answer) (h : s ≡ t)
@@ -86,3 +62,10 @@ module _ (b : Book) (c : Code) (m : Memory) (s t : Registers) (allowance : ℕ) 
       × (n ∷ [] ≡ writtenBy (printedOf b c m t allowance (length text)) words)
   unfolding printedNumber writtenBy
   text-put n words q = rw (← h, ← e .0, q) (refl, e .1, refl)
+
+-- the registers, once their words are read
+pub handed-over : (w values : List ℕ)
+    → record { pc = getD w 0 0; «pc_is_return_address» = not (eqb (getD w 1 0) 0); «sp_is_placeholder» = not (eqb (getD w 2 0) 0); mask = getD w 3 0; values = values }
+    ≡ registersIn w values
+unfolding registersIn
+handed-over w values = refl

@@ -3,7 +3,7 @@ use Prim.Native.Nat.{ℕ}
 use mathlib.Core.Bool.{true, false, not}
 use mathlib.Core.List.{List, [], _∷_}
 use lib.Dec.{eqb}
-use lib.ListN.{getD, take, drop}
+use lib.ListN.{getD}
 use Rattle.book.specs.Book.{Book}
 use Rattle.book.specs.Good.{bookIsGood}
 use Rattle.registers.specs.declared.Registers.{Registers}
@@ -15,15 +15,15 @@ use Rattle.cfi_unwind.specs.Stop.{stopNumber, stopValue}
 use Rattle.cfi_unwind.specs.declared.Answer.{Answer}
 use Rattle.cfi_unwind.specs.declared.Answer.the-variants.{Refused, Walked}
 
--- the registers that 36 words hand over: pc, whether pc is a return address, whether sp is a placeholder, the mask of known registers, 32 values
-unfoldable pub registersIn : List ℕ → Registers
-registersIn w =
+-- the registers that four words and 32 values hand over: pc, whether pc is a return address, whether sp is a placeholder, the mask of known registers
+unfoldable pub registersIn : List ℕ → List ℕ → Registers
+registersIn w values =
     record {
       pc = getD w 0 0;
       «pc_is_return_address» = not (eqb (getD w 1 0) 0);
       «sp_is_placeholder» = not (eqb (getD w 2 0) 0);
       mask = getD w 3 0;
-      values = take 32 (drop 4 w);
+      values = values;
     }
 
 -- what a walk returns: 0, or the refusal's number

@@ -34,6 +34,7 @@ pub record Lent : Type 0 where
   pub sdWords : List ℕ
   pub sdSegments : List ℕ
 
+-- the four lists as one
 abbrev pub lentOf : List ℕ → List ℕ → List ℕ → List ℕ → Lent
 lentOf iw is dw ds = record { idfWords = iw; idfSegments = is; sdWords = dw; sdSegments = ds }
 
@@ -49,12 +50,13 @@ byBacktrace s top l = esp-backtrace.fed (parsed s) top (length (l .sdWords)) (l 
 abbrev pub byIdf : List ℕ → Lent → EspIdf → IdfFed
 byIdf s l c = esp-idf.fed s (length (l .idfWords)) (l .idfSegments) c
 
--- neither collector needs more than its lists hold
+-- the STACKDUMP collector needs no more than its lists hold
 abbrev pub backtraceFits : BacktraceLine → Bool
 backtraceFits backtrace.Full = false
 backtraceFits backtrace.Other = true
 backtraceFits (backtrace.Complete d) = true
 
+-- the ESP-IDF collector needs no more than its lists hold
 abbrev pub idfFits : IdfLine → Bool
 idfFits idf.Full = false
 idfFits idf.Other = true
@@ -74,14 +76,14 @@ refusalOf s top l c =
 abbrev pub refusedBy : EspIdf → Refusal → Fed
 refusedBy c r = record { line = Refused r; collector = c; registers = newOf 0; memory = nothingYet }
 
--- what the line is by the ESP-IDF collector
+-- what the line is by the ESP-IDF collector; one that does not fit was refused before
 abbrev pub lineBy : IdfLine → Line
 lineBy idf.Other = Other
 lineBy idf.Data = Data
 lineBy idf.Complete = Complete ByIdf
 lineBy idf.Full = Refused MemoryFull
 
--- the STACKDUMP answer wins; an ESP-IDF dump ended by that line is lost
+-- the STACKDUMP answer wins; an ESP-IDF dump ended by that line is lost; one that does not fit was refused before
 abbrev pub answered : BacktraceLine → IdfFed → Fed
 answered (backtrace.Complete d) f =
     record { line = Complete ByBacktrace; collector = f .collector; registers = esp-backtrace.registersOf d; memory = d .memory }

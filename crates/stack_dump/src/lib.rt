@@ -92,9 +92,9 @@ fn by_idf(second: esp_idf::Fed) -> Fed
 {
     let line = second.line;
     let collector = second.collector;
-    let dump = second.dump;
-    let registers = dump.registers;
-    let memory = dump.memory;
+    let ended = second.dump;
+    let registers = ended.registers;
+    let memory = ended.memory;
     Fed {
         line: line_by(line),
         collector,

@@ -29,7 +29,7 @@ same-length-2 : tie.Need-same-length-2
 same-length-2 c = search needs
 
 returns-2 : tie.Need-returns-2
-returns-2 c = text-put _ _ _ _ _ _ _ _ _ (c .before .before .before .before .before .before .before .before .registers-in .ensures) (c .before .before .before .before .before .before .print-backtrace .ensures) _ (c .before .before .before .before .before .before .before .before .before .before .before .before .before .before .before .before .before .before .before .args .written .now) (c .before .before .printed2 .given .1)
+returns-2 c = text-put _ _ _ _ _ _ _ _ _ (c .before .before .before .before .before .before .before .before .registers-in .ensures) (c .before .before .before .before .before .before .print-backtrace .ensures) _ (c .before .before .before .before .before .before .before .before .before .before .before .before .before .before .before .before .before .before .before .before .args .written .now) (c .before .before .printed2 .given .1)
 
 pub jurddavik-print-backtrace-spec : {M : Type 1} → statement M
 jurddavik-print-backtrace-spec =

@@ -35,7 +35,7 @@ same-length-2 : tie.Need-same-length-2
 same-length-2 c = search needs
 
 returns-2 : tie.Need-returns-2
-returns-2 c = walked _ _ _ _ _ _ _ _ _ _ (c .before .before .before .before .before .before .before .before .before .before .registers-in .ensures) (c .before .before .before .before .before .before .before .before .unwind .ensures) _ _ _ _ _ (c .before .before .before .before .before .before .before .before .before .before .before .before .before .before .before .before .before .before .before .before .before .args .walked .now) (c .before .before .before .before .answer2 .given .1) (c .before .before .number2 .ensures) (c .before .value .ensures)
+returns-2 c = walked _ _ _ _ _ _ _ _ _ _ (c .before .before .before .before .before .before .before .before .before .before .registers-in .ensures) (c .before .before .before .before .before .before .before .before .unwind .ensures) _ _ _ _ _ (c .before .before .before .before .before .before .before .before .before .before .before .before .before .before .before .before .before .before .before .before .before .before .args .walked .now) (c .before .before .before .before .answer2 .given .1) (c .before .before .number2 .ensures) (c .before .value .ensures)
 
 pub jurddavik-unwind-spec : {M : Type 1} → statement M
 jurddavik-unwind-spec =

@@ -1,0 +1,5 @@
+pub mod Fields
+pub mod Shapes
+pub mod SheetLines
+pub mod Order
+pub mod Capped
