@@ -19,7 +19,8 @@ unsafe extern "C" {
         segments_length: usize,
         words: *const u32,
         words_length: usize,
-        registers: *const [u32; 36],
+        registers: *const u32,
+        values: *const u32,
         max_frames: u32,
         allowance: u32,
         frames: *mut u32,
@@ -38,9 +39,11 @@ unsafe extern "C" {
         rules_length: usize,
     ) -> u32;
 
-    #[cfg(feature = "lines")]
     pub fn jurddavik_feed(
-        collector: *mut [u32; 42],
+        state: *mut [u32; 4],
+        registers: *mut u32,
+        values: *mut u32,
+        taken: *mut [u64; 2],
         line: *const u8,
         line_length: usize,
         top: *const [u32; 2],
@@ -52,10 +55,12 @@ unsafe extern "C" {
         sd_words_length: usize,
         sd_segments: *mut u32,
         sd_segments_length: usize,
-        dump: *mut [u32; 39],
+        answer: *mut [u32; 1],
+        dump: *mut u32,
+        dump_values: *mut u32,
+        held: *mut [u64; 2],
     ) -> u32;
 
-    #[cfg(feature = "text")]
     pub fn jurddavik_print_backtrace(
         tables: *const u32,
         tables_length: usize,
@@ -73,17 +78,9 @@ unsafe extern "C" {
         segments_length: usize,
         words: *const u32,
         words_length: usize,
-        registers: *const [u32; 36],
+        registers: *const u32,
+        values: *const u32,
         allowance: u32,
-        text: *mut u8,
-        text_length: usize,
-        length: *mut [u64; 1],
-    ) -> u32;
-
-    #[cfg(feature = "sheet")]
-    pub fn jurddavik_walk_sheet(
-        sheet: *const u8,
-        sheet_length: usize,
         text: *mut u8,
         text_length: usize,
         length: *mut [u64; 1],

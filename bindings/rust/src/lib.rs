@@ -4,23 +4,15 @@
 //! whatever the lists hold. A refused call leaves all that was lent unchanged.
 
 mod ffi;
-#[cfg(feature = "lines")]
 mod lines;
 pub mod numbers;
 mod refusal;
 mod registers;
-#[cfg(feature = "sheet")]
-mod sheet;
-#[cfg(feature = "text")]
 mod text;
 mod walk;
 
-#[cfg(feature = "lines")]
 pub use lines::{Answer, Collector, Dump, Room};
 pub use refusal::Refusal;
 pub use registers::Registers;
-#[cfg(feature = "sheet")]
-pub use sheet::walk_sheet;
-#[cfg(feature = "text")]
 pub use text::print_backtrace;
 pub use walk::{Book, Code, FRAME_WORDS, Firmware, Memory, Stop, Walked, book_is_good, unwind};

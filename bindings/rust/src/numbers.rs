@@ -4,9 +4,7 @@
 //! Safe, for a slice is a good pointer with its length, and what is lent to be
 //! written is lent to one call alone.
 
-#[cfg(feature = "lines")]
-use crate::Collector;
-use crate::{Book, Firmware, Memory, ffi};
+use crate::{Book, Collector, Firmware, Memory, ffi};
 
 /// `walked` gets how many frames were written, the stop's number and value, and
 /// how many instructions were visited.
@@ -40,7 +38,8 @@ pub fn unwind(
             memory.segments.len(),
             memory.words.as_ptr(),
             memory.words.len(),
-            registers,
+            registers.as_ptr(),
+            registers[4..].as_ptr(),
             max_frames,
             allowance,
             frames.as_mut_ptr(),
@@ -67,12 +66,17 @@ pub fn book_is_good(book: &Book) -> u32 {
 }
 
 /// `top` is whether the stack top is known, and the stack top.
-#[cfg(feature = "lines")]
 pub fn feed(collector: &mut Collector, line: &[u8], top: &[u32; 2]) -> u32 {
+    let (head, values) = collector.registers.split_at_mut(4);
+    let (dump, dump_values) = collector.dump.split_at_mut(4);
+
     // SAFETY: see above.
     unsafe {
         ffi::jurddavik_feed(
             &mut collector.state,
+            head.as_mut_ptr(),
+            values.as_mut_ptr(),
+            &mut collector.taken,
             line.as_ptr(),
             line.len(),
             top,
@@ -84,13 +88,15 @@ pub fn feed(collector: &mut Collector, line: &[u8], top: &[u32; 2]) -> u32 {
             collector.sd_words.len(),
             collector.sd_segments.as_mut_ptr(),
             collector.sd_segments.len(),
-            &mut collector.dump,
+            &mut collector.answer,
+            dump.as_mut_ptr(),
+            dump_values.as_mut_ptr(),
+            &mut collector.held,
         )
     }
 }
 
 /// `length` gets how many bytes of text were written.
-#[cfg(feature = "text")]
 pub fn print_backtrace(
     firmware: &Firmware,
     memory: &Memory,
@@ -120,23 +126,9 @@ pub fn print_backtrace(
             memory.segments.len(),
             memory.words.as_ptr(),
             memory.words.len(),
-            registers,
+            registers.as_ptr(),
+            registers[4..].as_ptr(),
             allowance,
-            text.as_mut_ptr(),
-            text.len(),
-            length,
-        )
-    }
-}
-
-/// `length` gets how many bytes of text were written.
-#[cfg(feature = "sheet")]
-pub fn walk_sheet(sheet: &[u8], text: &mut [u8], length: &mut [u64; 1]) -> u32 {
-    // SAFETY: see above.
-    unsafe {
-        ffi::jurddavik_walk_sheet(
-            sheet.as_ptr(),
-            sheet.len(),
             text.as_mut_ptr(),
             text.len(),
             length,

@@ -46,7 +46,6 @@ fn turn(call: &mut dyn FnMut(), times: &mut u32) -> Duration {
 
 pub fn bench(options: &Options) -> Result<(), String> {
     println!("{:48} {:>12} {:>12} {:>8}", "", "Rust", "port", "ratio");
-    #[cfg(feature = "lines")]
     crate::bench_lines::bench();
     let real: Vec<Lists> = real::walks(&options.real)?
         .into_iter()
@@ -57,7 +56,6 @@ pub fn bench(options: &Options) -> Result<(), String> {
     }
     walks("a rebuild of nine links", &[cases::nine_links()]);
     walks("a search that fails", &[cases::failing_search()]);
-    #[cfg(feature = "text")]
     if !real.is_empty() {
         texts(&format!("text of {} real sheets", real.len()), &real);
     }
@@ -136,8 +134,6 @@ fn walk(lists: &Lists, frames: &mut [u32]) -> [u32; 4] {
 
     walked
 }
-
-#[cfg(feature = "text")]
 fn texts(name: &str, all: &[Lists]) {
     let made: Vec<_> = all
         .iter()

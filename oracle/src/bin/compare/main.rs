@@ -3,7 +3,6 @@
 
 mod bench;
 mod bench_cases;
-#[cfg(feature = "lines")]
 mod bench_lines;
 mod book;
 mod code;
@@ -11,24 +10,20 @@ mod damage;
 mod gen_caps;
 mod gen_dump;
 mod gen_firmware;
-#[cfg(feature = "lines")]
 mod gen_lines;
 mod gen_soup;
 mod gen_walk;
-#[cfg(feature = "lines")]
 mod lines;
 mod lists;
 mod options;
 mod random;
 mod real;
 mod replay;
-#[cfg(feature = "lines")]
 mod replay_lines;
 mod run;
 mod show;
 mod shrink;
 mod tally;
-#[cfg(feature = "text")]
 mod texts;
 mod walks;
 

@@ -74,11 +74,9 @@ fn lists(sheet: sheet::Sheet) -> Lists {
 }
 
 /// The lines of a log, with the stack top of the firmware that wrote it.
-#[cfg(feature = "lines")]
 pub type RealLog = (Vec<Vec<u8>>, Option<u32>);
 
 /// The logs of a folder.
-#[cfg(feature = "lines")]
 pub fn logs(folder: &Path) -> Result<Vec<RealLog>, String> {
     files(folder, "log")
         .into_iter()
@@ -92,8 +90,6 @@ pub fn logs(folder: &Path) -> Result<Vec<RealLog>, String> {
         })
         .collect()
 }
-
-#[cfg(feature = "lines")]
 fn stack_top(elf: &[u8]) -> Option<u32> {
     use object::{Object, ObjectSymbol};
 

@@ -8,8 +8,6 @@
 use std::{collections::BTreeMap, fs, path::Path};
 
 use oracle::walk;
-
-#[cfg(feature = "lines")]
 use crate::replay_lines;
 use crate::{
     gen_walk, lists::Lists, options::Options, random::Random, show, shrink, tally::Tally, walks,
@@ -27,7 +25,6 @@ pub fn write(options: &Options, folder: &Path) -> Result<(), String> {
         fs::write(folder.join(name), text).map_err(|error| error.to_string())
     };
     put("walks.replay", walks)?;
-    #[cfg(feature = "lines")]
     put("lines.replay", replay_lines::lines(options))?;
 
     Ok(())

@@ -1,14 +1,11 @@
 //! The comparison: every part of it, until a difference is found.
 
 use std::time::Instant;
-
-#[cfg(feature = "text")]
 use crate::texts;
 use crate::{
     gen_caps, gen_walk, lists::Lists, options::Options, random::Random, real, show, shrink,
     tally::Tally, walks,
 };
-#[cfg(feature = "lines")]
 use crate::{
     gen_lines::{self, EXHAUSTIVE},
     lines::{self, Log},
@@ -23,11 +20,9 @@ pub fn compare(options: &Options) -> Result<(), String> {
     if options.has("walks") {
         compare_walks(options, &mut tally)?;
     }
-    #[cfg(feature = "text")]
     if options.has("texts") {
         compare_texts(options, &mut tally)?;
     }
-    #[cfg(feature = "lines")]
     if options.has("lines") {
         compare_lines(options, &mut tally)?;
     }
@@ -48,7 +43,6 @@ fn compare_real(options: &Options, tally: &mut Tally) -> Result<(), String> {
     for (path, lists) in &sheets {
         let from = path.display().to_string();
         compare_walk(&from, lists, true, tally)?;
-        #[cfg(feature = "text")]
         compare_text(&from, lists, &mut Random::new(options.seed, 0), tally)?;
     }
 
@@ -97,8 +91,6 @@ fn compare_walk(from: &str, lists: &Lists, twice: bool, tally: &mut Tally) -> Re
         })),
     }
 }
-
-#[cfg(feature = "text")]
 fn compare_texts(options: &Options, tally: &mut Tally) -> Result<(), String> {
     let mut family = 0;
     while tally.all_texts() < options.texts {
@@ -112,8 +104,6 @@ fn compare_texts(options: &Options, tally: &mut Tally) -> Result<(), String> {
 
     Ok(())
 }
-
-#[cfg(feature = "text")]
 fn compare_text(
     from: &str,
     lists: &Lists,
@@ -147,7 +137,6 @@ fn report(
 }
 
 /// Lines, the exhaustive ones first. Each kind gets its share of the count.
-#[cfg(feature = "lines")]
 fn compare_lines(options: &Options, tally: &mut Tally) -> Result<(), String> {
     compare_exhaustive(options, tally)?;
     let mut random = Random::new(options.seed, u64::MAX);
@@ -173,7 +162,6 @@ fn compare_lines(options: &Options, tally: &mut Tally) -> Result<(), String> {
 }
 
 /// Every sequence if there are lines enough, else every nth.
-#[cfg(feature = "lines")]
 fn compare_exhaustive(options: &Options, tally: &mut Tally) -> Result<(), String> {
     const LINES_OF_A_LOG: u64 = 5;
 
@@ -189,8 +177,6 @@ fn compare_exhaustive(options: &Options, tally: &mut Tally) -> Result<(), String
 
     Ok(())
 }
-
-#[cfg(feature = "lines")]
 fn compare_log(from: &str, log: &Log, tally: &mut Tally) -> Result<(), String> {
     let Some(what) = lines::difference(log, tally) else {
         return Ok(());
