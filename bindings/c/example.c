@@ -33,16 +33,15 @@ int main(void)
 {
     enum { LIMIT = 100 };
     /* pc, not a return address, sp is no placeholder, ra and sp are known */
-    const uint32_t registers[JURDDAVIK_REGISTER_WORDS] = {
-        0x4200001c, 0, 0, 1u << 1 | 1u << 2, /**/ 0, 0x42000018, 0x3fc80000,
-    };
+    const uint32_t registers[JURDDAVIK_REGISTER_WORDS] = {0x4200001c, 0, 0, 1u << 1 | 1u << 2};
+    const uint32_t values[JURDDAVIK_REGISTER_VALUES] = {0, 0x42000018, 0x3fc80000};
     uint32_t frames[JURDDAVIK_FRAME_WORDS * LIMIT];
     uint32_t walked[4];
 
     uint32_t refusal = jurddavik_unwind(
         tables, LENGTH(tables), functions, LENGTH(functions), rows, LENGTH(rows), rules, LENGTH(rules),
         sections, LENGTH(sections), code, LENGTH(code), segments, LENGTH(segments), words, LENGTH(words),
-        registers, LIMIT, UINT32_MAX, frames, LENGTH(frames), walked);
+        registers, values, LIMIT, UINT32_MAX, frames, LENGTH(frames), walked);
     if (refusal != 0) {
         printf("refused=%u,0\n", (unsigned)refusal);
         return 1;

@@ -40,7 +40,8 @@ extern "C" {
 #define JURDDAVIK_BUDGET_SPENT 8 /* walked[2]: pc of the frame whose caller was sought */
 
 #define JURDDAVIK_FRAME_WORDS 4     /* pc, sp, pc is a return address (0 or 1), the frame was rebuilt (0 or 1) */
-#define JURDDAVIK_REGISTER_WORDS 36 /* pc, pc is a return address, sp is a placeholder, mask of known registers, 32 values */
+#define JURDDAVIK_REGISTER_WORDS 4  /* pc, pc is a return address, sp is a placeholder, mask of known registers; a flag is set if it is not 0 */
+#define JURDDAVIK_REGISTER_VALUES 32
 
 /* Walks the call chain from the registers on.
  *
@@ -50,7 +51,8 @@ extern "C" {
  * rules      register, kind, operand
  * sections   address, byte offset, length; over the bytes of `code`
  * segments   base, word count; over `words`
- * registers  JURDDAVIK_REGISTER_WORDS; a flag is set if it is not 0
+ * registers  JURDDAVIK_REGISTER_WORDS, and
+ * values     the value of each register, by its number
  * max_frames at most 1,024
  * allowance  how many instructions the search for lost callers may visit
  * frames     JURDDAVIK_FRAME_WORDS for each of max_frames frames; only the frames reported are written
@@ -67,6 +69,7 @@ uint32_t jurddavik_unwind(const uint32_t *tables, size_t tables_length,
                           const uint32_t *segments, size_t segments_length,
                           const uint32_t *words, size_t words_length,
                           const uint32_t registers[JURDDAVIK_REGISTER_WORDS],
+                          const uint32_t values[JURDDAVIK_REGISTER_VALUES],
                           uint32_t max_frames, uint32_t allowance,
                           uint32_t *frames, size_t frames_length,
                           uint32_t walked[4]);
@@ -77,13 +80,7 @@ uint32_t jurddavik_book_is_good(const uint32_t *tables, size_t tables_length,
                                 const uint32_t *rows, size_t rows_length,
                                 const uint32_t *rules, size_t rules_length);
 
-/* What follows is not in the library yet: define the macro of a part to have it declared. */
-
-#ifdef JURDDAVIK_LINES
-#define JURDDAVIK_COLLECTOR_WORDS 42
-#define JURDDAVIK_DUMP_WORDS 39
-
-/* What a line is, dump[0]. */
+/* What a line is, answer[0]. */
 #define JURDDAVIK_OTHER 0       /* no part of a dump */
 #define JURDDAVIK_DATA 1        /* a stack line of an unfinished dump */
 #define JURDDAVIK_DUMP_BEFORE 2 /* an ESP-IDF dump is complete, and the line is the first after it */
@@ -91,27 +88,36 @@ uint32_t jurddavik_book_is_good(const uint32_t *tables, size_t tables_length,
 
 /* Feeds the next line, without its line feed, to the collectors of both dump formats.
  *
- * collector   all 0 before the first line; then as the last call left it: state (0 idle, 1 registers, 2 stack), pc known, pc, registers known,
- *             JURDDAVIK_REGISTER_WORDS, words, segments
+ * state       the collector: 0 idle, 1 registers, 2 stack; pc known; pc; registers known. All 0 before the first line, as are the next three;
+ *             then as the last call left them
+ * registers, values
+ *             the registers collected
+ * taken       how many words and segments of the idf lists are taken
  * top         whether the stack top is known, and the stack top
  * idf_*, sd_* memory of the dump of either format: words, and segments as pairs (base, word count). The caller lends the same lists for each line
- * dump        what the line is; then, of a dump that is complete, JURDDAVIK_REGISTER_WORDS, and how many words and segments it has: they are the
- *             first of the idf or the sd lists
+ * answer      what the line is
+ * dump, dump_values
+ *             of a dump that is complete, its registers; else they keep what they had
+ * held        and how many words and segments it has: they are the first of the idf or the sd lists
  *
  * Refused, in this order: 1, 2, 3.
  */
-uint32_t jurddavik_feed(uint32_t collector[JURDDAVIK_COLLECTOR_WORDS],
+uint32_t jurddavik_feed(uint32_t state[4],
+                        uint32_t registers[JURDDAVIK_REGISTER_WORDS],
+                        uint32_t values[JURDDAVIK_REGISTER_VALUES],
+                        uint64_t taken[2],
                         const uint8_t *line, size_t line_length,
                         const uint32_t top[2],
                         uint32_t *idf_words, size_t idf_words_length,
                         uint32_t *idf_segments, size_t idf_segments_length,
                         uint32_t *sd_words, size_t sd_words_length,
                         uint32_t *sd_segments, size_t sd_segments_length,
-                        uint32_t dump[JURDDAVIK_DUMP_WORDS]);
-#endif
+                        uint32_t answer[1],
+                        uint32_t dump[JURDDAVIK_REGISTER_WORDS],
+                        uint32_t dump_values[JURDDAVIK_REGISTER_VALUES],
+                        uint64_t held[2]);
 
-#ifdef JURDDAVIK_TEXT
-/* Walks for itself, at most 100 frames, and writes the backtrace as text; length[0] is how many bytes. The lists are those of jurddavik_unwind.
+/* Walks for itself, at most 100 frames, and writes the backtrace as text; written[0] is how many bytes. The lists are those of jurddavik_unwind.
  *
  * Refused, in this order: 4, 5, 6, 7.
  */
@@ -124,17 +130,10 @@ uint32_t jurddavik_print_backtrace(const uint32_t *tables, size_t tables_length,
                                    const uint32_t *segments, size_t segments_length,
                                    const uint32_t *words, size_t words_length,
                                    const uint32_t registers[JURDDAVIK_REGISTER_WORDS],
+                                   const uint32_t values[JURDDAVIK_REGISTER_VALUES],
                                    uint32_t allowance,
                                    uint8_t *text, size_t text_length,
-                                   uint64_t length[1]);
-#endif
-
-#ifdef JURDDAVIK_SHEET
-/* Walks document 01's case sheet and writes the answer as text; length[0] is how many bytes. */
-uint32_t jurddavik_walk_sheet(const uint8_t *sheet, size_t sheet_length,
-                              uint8_t *text, size_t text_length,
-                              uint64_t length[1]);
-#endif
+                                   uint64_t written[1]);
 
 #ifdef __cplusplus
 }

@@ -8,7 +8,8 @@ use rows::Row;
 use rows::SpOffset;
 use search::RuleAt;
 ghost use mathlib.Core.Path.{_≡_};
-ghost use mathlib.Core.Bool.{true};
+ghost use mathlib.Core.Bool.{true, _&&_, cond};
+ghost use lib.Dec.{eqb};
 ghost use mathlib.Core.Option.{none};
 ghost use mathlib.Core.List.{[], _∷_};
 ghost use Prim.Native.Nat.{suc, _+_, _*_, _/_, _≤_, _<_};
@@ -19,14 +20,15 @@ ghost use Rattle.code.specs.Code.{codeOf, codeIsGood};
 ghost use Rattle.calls.specs.Call.{callBefore};
 ghost use Rattle.calls.specs.Listing.{sizeAt};
 ghost use Rattle.memory.specs.Memory.{memoryOf, memoryIsGood, readAt};
-ghost use Rattle.registers.specs.Registers.{reads, valueOf};
+ghost use Rattle.registers.specs.Registers.{kept, readBy, reads, remade, valueOf};
+ghost use Rattle.words.specs.Words.{bit};
 ghost use Rattle.rows.specs.View.{rowSeen, ruleList, viewAt};
 ghost use Rattle.search.specs.Recover.{ruleFor, inner, scan};
 ghost use Rattle.search.specs.Answers.{ruleMade, linksIn};
 ghost use Rattle.cfi_unwind.specs.Stop.{stopNumber, stopValue};
 ghost use Rattle.cfi_unwind.specs.Step as spec;
 ghost use Rattle.cfi_unwind.specs.Walk as walk;
-ghost use Rattle.cfi_unwind.specs.Answers.{knownBy, cfaOf, steppedOf, stoppedAt, rebuiltOf, advancedOf, judgedOf, written, endedOf};
+ghost use Rattle.cfi_unwind.specs.Answers.{knownBy, registersBy, cfaOf, returnOf, steppedOf, stoppedAt, rebuiltOf, advancedOf, judgedOf, written, endedOf};
 ghost use Rattle.cfi_unwind.specs.Unwind.{frameWords, recordOf, recordsOf, framesBy, answerOf, framesOf};
 
 // Why unwinding stopped.
@@ -84,6 +86,13 @@ pub enum Cfa {
     Nowhere(Stop),
 }
 
+// Where a frame returns to, if that is known: an address or none, a stop, or nobody knows.
+pub enum Return {
+    To(Value),
+    Halt(Stop),
+    Lost,
+}
+
 // What a step comes to.
 pub enum Outcome {
     Caller,
@@ -139,21 +148,23 @@ const FRAME_WORDS: u32 = 4;
 // The frame limit that is not refused.
 const FRAME_LIMIT: u32 = 1024;
 
-// What a rule says of its register, by the frame's registers.
+// What a rule says of its register, by the mask and the values of the frame's registers. The values are lent from here on down, and those of
+// the caller are changed in place: a struct by value is copied at each call, and that took most of a step's time.
 fn value_by(
     segments: &[u32],
     words: &[u32],
-    registers: Registers,
+    mask: u32,
+    values: &[u32; 32],
     cfa: u32,
     register: u32,
     kind: u32,
     operand: u32,
 ) -> Value
     requires { ⌜ memoryIsGood (memoryOf (now segments) (now words)) ≡ true ⌝ }
-    ensures { λ v. ⌜ v ≡ valueOf (spec.valueBy (readAt (memoryOf (now (segments .entry)) (now (words .entry)))) (reads registers) cfa (ruleMade register kind operand)) ⌝ }
+    ensures { λ v. ⌜ v ≡ valueOf (spec.valueBy (readAt (memoryOf (now (segments .entry)) (now (words .entry)))) (readBy mask (now (values .entry))) cfa (ruleMade register kind operand)) ⌝ }
 {
     match kind {
-        1 => registers.get(register),
+        1 => registers::read(mask, values, register),
         2 => {
             let at = std::num::wrapping_add_u32(cfa, operand);
             let Word::Is(w) = memory::read_u32(segments, words, at) else {
@@ -162,60 +173,81 @@ fn value_by(
             Value::Known(w)
         }
         3 => Value::Known(std::num::wrapping_add_u32(cfa, operand)),
-        4 => registers.get(operand),
+        4 => registers::read(mask, values, operand),
         5 => Value::Known(operand),
         _ => Value::Unknown,
     }
 }
 
-// The caller's registers with one more that is kept across a call.
-fn keep(registers: Registers, r: u32, caller: Registers) -> Registers
-    ensures { λ s. ⌜ s ≡ spec.keep registers r caller ⌝ }
+// Whether register r is kept across a call and known.
+fn stays(mask: u32, r: u32) -> bool
+    requires { ⌜ r < 32 ⌝ }
+    ensures { λ b. ⌜ b ≡ (kept r && eqb (bit mask r) 1) ⌝ }
 {
-    if !registers::is_callee_saved(r) {
-        return caller;
-    }
-    let Value::Known(v) = registers.get(r) else {
-        return caller;
-    };
-    caller.set(r, v)
+    registers::is_callee_saved(r) & ((mask >> r) % 2 == 1)
 }
 
-// The registers that are kept across a call, and no other.
+// The number, or 0.
+fn only_if(b: bool, v: u32) -> u32
+    ensures { λ r. ⌜ r ≡ cond b v 0 ⌝ }
+{
+    if b { v } else { 0 }
+}
+
+// The registers that are kept across a call, and no other. Each turn stores, a 0 where nothing is kept: without branches in it the loop is
+// done four registers at a time.
 fn keepers(registers: Registers) -> Registers
     ensures { λ s. ⌜ s ≡ spec.keepers 32 registers ⌝ }
 {
-    let mut caller = Registers::new(0);
-    caller.sp_is_placeholder = registers.sp_is_placeholder;
+    let mut mask = 0u32;
+    let mut values = [0u32; 32];
     let mut r = 0u32;
     while r < 32 {
-        caller = keep(registers, r, caller);
+        let b = stays(registers.mask, r);
+        mask = mask | only_if(b, 1 << r);
+        values[r as usize] = only_if(b, registers.values[r as usize]);
         r += 1;
     }
-    caller
+    Registers {
+        pc: 0,
+        pc_is_return_address: false,
+        sp_is_placeholder: registers.sp_is_placeholder,
+        mask,
+        values,
+    }
 }
 
-// The caller's registers after one rule more; that of ra is left out.
+// One rule more, of the caller's registers, whose mask is handed back; that of ra is left out, and those that can't be set.
 fn rule_to(
     segments: &[u32],
     words: &[u32],
-    registers: Registers,
+    known: u32,
+    frame: &[u32; 32],
     cfa: u32,
     register: u32,
     kind: u32,
     operand: u32,
-    caller: Registers,
-) -> Registers
+    mask: u32,
+    values: &mut [u32; 32],
+) -> u32
     requires { ⌜ memoryIsGood (memoryOf (now segments) (now words)) ≡ true ⌝ }
-    ensures { λ s. ⌜ s ≡ spec.byRules (readAt (memoryOf (now (segments .entry)) (now (words .entry)))) (reads registers) cfa (ruleMade register kind operand ∷ []) caller ⌝ }
+    ensures { λ m. ⌜ ((s : Registers) → remade s m (now (values .exit)) ≡ spec.byRules (readAt (memoryOf (now (segments .entry)) (now (words .entry)))) (readBy known (now (frame .entry))) cfa (ruleMade register kind operand ∷ []) (remade s mask (now (values .entry)))) ⌝ }
 {
-    if register == Registers::RA {
-        return caller;
+    if register < 2 {
+        return mask;
     }
-    let Value::Known(v) = value_by(segments, words, registers, cfa, register, kind, operand) else {
-        return caller.clear(register);
+    if 32 <= register {
+        return mask;
+    }
+    let Value::Known(v) = value_by(segments, words, known, frame, cfa, register, kind, operand)
+    else {
+        if (mask >> register) % 2 == 1 {
+            return mask ^ (1 << register);
+        }
+        return mask;
     };
-    caller.set(register, v)
+    values[register as usize] = v;
+    mask | (1 << register)
 }
 
 // The caller's registers, but for its pc: each rule reads the frame's registers, never those already replaced.
@@ -230,27 +262,37 @@ fn caller_of(
     requires { ⌜ (row .«first_rule» + row .«rule_count» ≤ length (now rules) / 3) × (memoryIsGood (memoryOf (now segments) (now words)) ≡ true) ⌝ }
     ensures { λ s. ⌜ s ≡ spec.callerOf (readAt (memoryOf (now (segments .entry)) (now (words .entry)))) registers cfa (rowSeen (now (rules .entry)) row .rules) ⌝ }
 {
-    let mut caller = keepers(registers).set(Registers::SP, cfa);
+    let start = keepers(registers).set(Registers::SP, cfa);
+    let mut mask = start.mask;
+    let mut values = start.values;
     let mut k = row.first_rule;
     let mut left = row.rule_count;
     while 0 < left {
         let register = words::word(rules, 3, k, 0);
         let kind = words::word(rules, 3, k, 1);
         let operand = words::word(rules, 3, k, 2);
-        caller = rule_to(
+        mask = rule_to(
             segments,
             words,
-            registers,
+            registers.mask,
+            &registers.values,
             cfa,
             register,
             kind,
             operand,
-            caller,
+            mask,
+            &mut values,
         );
         k += 1;
         left -= 1;
     }
-    caller
+    Registers {
+        pc: start.pc,
+        pc_is_return_address: start.pc_is_return_address,
+        sp_is_placeholder: start.sp_is_placeholder,
+        mask,
+        values,
+    }
 }
 
 // On to the return address, unless it is unknown or 0.
@@ -290,7 +332,51 @@ fn halt(stop: Stop, registers: Registers) -> Stepped
     }
 }
 
-// By the rule for ra; without one the live ra counts, for the innermost frame only.
+// Where a frame returns to, by the rule for ra; without one the live ra counts, for the innermost frame only.
+fn return_to(
+    rules: &[u32],
+    segments: &[u32],
+    words: &[u32],
+    first: usize,
+    count: usize,
+    pc: u32,
+    mask: u32,
+    values: &[u32; 32],
+    cfa: u32,
+    innermost: bool,
+) -> Return
+    requires { ⌜ (first + count ≤ length (now rules) / 3) × (memoryIsGood (memoryOf (now segments) (now words)) ≡ true) ⌝ }
+    ensures { λ r. ⌜ r ≡ returnOf (readAt (memoryOf (now (segments .entry)) (now (words .entry)))) innermost pc (readBy mask (now (values .entry))) cfa (ruleFor 1 (ruleList (now (rules .entry)) count first)) ⌝ }
+{
+    let RuleAt::Rule { kind, operand } = search::rule_for(rules, first, count) else {
+        if innermost {
+            return Return::To(registers::read(mask, values, Registers::RA));
+        }
+        return Return::Lost;
+    };
+    if kind == 2 {
+        let at = std::num::wrapping_add_u32(cfa, operand);
+        let Word::Is(to) = memory::read_u32(segments, words, at) else {
+            return Return::Halt(Stop::MemoryUnavailable(at));
+        };
+        return Return::To(Value::Known(to));
+    }
+    if kind == 6 {
+        return Return::Halt(Stop::Unsupported(pc));
+    }
+    Return::To(value_by(
+        segments,
+        words,
+        mask,
+        values,
+        cfa,
+        Registers::RA,
+        kind,
+        operand,
+    ))
+}
+
+// From the frame address on. There is one call of `on_to`, so that it becomes a part of the walk's loop.
 fn above(
     rules: &[u32],
     segments: &[u32],
@@ -303,78 +389,52 @@ fn above(
     requires { ⌜ (row .«first_rule» + row .«rule_count» ≤ length (now rules) / 3) × (memoryIsGood (memoryOf (now segments) (now words)) ≡ true) ⌝ }
     ensures { λ s. ⌜ s ≡ steppedOf registers (spec.above (readAt (memoryOf (now (segments .entry)) (now (words .entry)))) innermost registers (rowSeen (now (rules .entry)) row) cfa (ruleFor 1 (rowSeen (now (rules .entry)) row .rules))) ⌝ }
 {
-    let RuleAt::Rule { kind, operand } = search::rule_for(rules, row.first_rule, row.rule_count)
-    else {
-        if innermost {
-            return on_to(
-                rules,
-                segments,
-                words,
-                row,
-                registers,
-                cfa,
-                registers.get(Registers::RA),
-            );
-        }
-        return Stepped {
+    let to = return_to(
+        rules,
+        segments,
+        words,
+        row.first_rule,
+        row.rule_count,
+        registers.pc,
+        registers.mask,
+        &registers.values,
+        cfa,
+        innermost,
+    );
+    match to {
+        Return::To(ra) => on_to(rules, segments, words, row, registers, cfa, ra),
+        Return::Halt(stop) => halt(stop, registers),
+        Return::Lost => Stepped {
             outcome: Outcome::Lost {
                 cfa,
                 function_start: row.function_start,
             },
             registers,
-        };
-    };
-    if kind == 2 {
-        let at = std::num::wrapping_add_u32(cfa, operand);
-        let Word::Is(pc) = memory::read_u32(segments, words, at) else {
-            return halt(Stop::MemoryUnavailable(at), registers);
-        };
-        return on_to(
-            rules,
-            segments,
-            words,
-            row,
-            registers,
-            cfa,
-            Value::Known(pc),
-        );
+        },
     }
-    if kind == 6 {
-        return halt(Stop::Unsupported(registers.pc), registers);
-    }
-    let ra = value_by(
-        segments,
-        words,
-        registers,
-        cfa,
-        Registers::RA,
-        kind,
-        operand,
-    );
-    on_to(rules, segments, words, row, registers, cfa, ra)
 }
 
 // What the frame address is counted from, unless the fallback rule is used.
-fn base_of(row: Row, registers: Registers) -> Value
-    ensures { λ v. ⌜ v ≡ valueOf (spec.baseOf registers (rowSeen [] row)) ⌝ }
+fn base_of(row: Row, mask: u32, values: &[u32; 32], place: bool) -> Value
+    ensures { λ v. ⌜ v ≡ valueOf (spec.baseOf (registersBy 0 place mask (now (values .entry))) (rowSeen [] row)) ⌝ }
 {
     if row.cfa_register == Registers::SP {
-        return registers.get(Registers::SP);
+        return registers::read(mask, values, Registers::SP);
     }
-    if registers.sp_is_placeholder {
+    if place {
         return Value::Unknown;
     }
-    registers.get(row.cfa_register)
+    registers::read(mask, values, row.cfa_register)
 }
 
 // The frame address, by the row's rule for it, which the other rules have no part in.
-fn frame_address(row: Row, registers: Registers, sp: u32) -> Cfa
-    ensures { λ r. ⌜ r ≡ cfaOf (spec.frameAddress registers sp (rowSeen [] row)) ⌝ }
+fn frame_address(row: Row, pc: u32, mask: u32, values: &[u32; 32], place: bool, sp: u32) -> Cfa
+    ensures { λ r. ⌜ r ≡ cfaOf (spec.frameAddress (registersBy pc place mask (now (values .entry))) sp (rowSeen [] row)) ⌝ }
 {
     if row.cfa_kind != 0 {
-        return Cfa::Nowhere(Stop::Unsupported(registers.pc));
+        return Cfa::Nowhere(Stop::Unsupported(pc));
     }
-    let Value::Known(base) = base_of(row, registers) else {
+    let Value::Known(base) = base_of(row, mask, values, place) else {
         let offset = row.sp_cfa_offset;
         let SpOffset::Is(o) = offset else {
             return Cfa::Nowhere(Stop::UnknownRegister(row.cfa_register));
@@ -424,7 +484,14 @@ fn step(
     let Found::Here(row) = rows::row_for(tables, functions, rows, rules, lookup) else {
         return no_row(registers, innermost);
     };
-    let cfa = frame_address(row, registers, sp);
+    let cfa = frame_address(
+        row,
+        registers.pc,
+        registers.mask,
+        &registers.values,
+        registers.sp_is_placeholder,
+        sp,
+    );
     match cfa {
         Cfa::At(at) => above(rules, segments, words, row, registers, at, innermost),
         Cfa::Nowhere(stop) => halt(stop, registers),
@@ -628,9 +695,9 @@ fn put(frames: &mut [u32], n: u32, pc: u32, sp: u32, ret: u32, recovered: u32)
 }
 
 // Writes the rebuilt frames from number n on, the last call of the chain first.
-fn put_rebuilt(frames: &mut [u32], n: u32, links: [u32; 18], count: u32, cfa: u32)
+fn put_rebuilt(frames: &mut [u32], n: u32, links: &[u32; 18], count: u32, cfa: u32)
     requires { ⌜ (frameWords * (n + count) ≤ length (now frames)) × (n ≤ 1024) × (count ≤ 9) ⌝ }
-    ensures { λ _. ⌜ now (frames .exit) ≡ written (frameWords * n) (recordsOf ((inner cfa (linksIn links count)) .0)) (now (frames .entry)) ⌝ }
+    ensures { λ _. ⌜ now (frames .exit) ≡ written (frameWords * n) (recordsOf ((inner cfa (linksIn (now (links .entry)) count)) .0)) (now (frames .entry)) ⌝ }
 {
     let mut sp = cfa;
     let mut i = 0u32;
@@ -714,8 +781,7 @@ fn walk_frames(
         );
         let judged = judge(next, limit - n - 1, sp, pc);
         put(frames, n, pc, sp, flag(ret), 0);
-        let links = next.links;
-        put_rebuilt(frames, n + 1, links, judged.count, next.cfa);
+        put_rebuilt(frames, n + 1, &next.links, judged.count, next.cfa);
         n += 1 + judged.count;
         left = next.left;
         let go = judged.go;

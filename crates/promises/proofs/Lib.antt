@@ -9,3 +9,4 @@ pub mod Runs
 pub mod DemandHolds
 pub mod ThirdCase
 pub mod Count
+pub mod AnswersDetermined

@@ -1,7 +1,7 @@
 // The registers by value: a mask of the known ones, and their values. Each operation hands them back.
 // Their names and the numbers of ra and sp belong to the type.
 ghost use mathlib.Core.Path.{_≡_};
-ghost use Rattle.registers.specs.Registers.{kept, newOf, setOf, clearOf, reads, valueOf, numberNamed, same, textOf};
+ghost use Rattle.registers.specs.Registers.{kept, newOf, setOf, clearOf, readBy, reads, valueOf, numberNamed, same, textOf};
 
 // What a register reads, or which register is meant.
 pub enum Value {
@@ -78,18 +78,7 @@ impl Registers {
     pub fn get(self, r: u32) -> Value
         ensures { λ w. ⌜ w ≡ valueOf (reads self r) ⌝ }
     {
-        if r == 0 {
-            return Value::Known(0);
-        }
-        if 32 <= r {
-            return Value::Unknown;
-        }
-        if (self.mask >> r) % 2 == 1 {
-            let v = self.values[r as usize];
-            Value::Known(v)
-        } else {
-            Value::Unknown
-        }
+        read(self.mask, &self.values, r)
     }
 
     pub fn set(mut self, r: u32, v: u32) -> Registers
@@ -157,12 +146,26 @@ fn spells(entry: &[u8], name: &[u8]) -> bool
     i == name.len()
 }
 
-// Whether a called function must preserve the register.
+// What register r reads, by a mask of the known ones and their values: these are lent, where `get` has the whole struct copied for it.
+pub fn read(mask: u32, values: &[u32; 32], r: u32) -> Value
+    ensures { λ w. ⌜ w ≡ valueOf (readBy mask (now (values .entry)) r) ⌝ }
+{
+    if r == 0 {
+        return Value::Known(0);
+    }
+    if 32 <= r {
+        return Value::Unknown;
+    }
+    if (mask >> r) % 2 == 1 {
+        Value::Known(values[r as usize])
+    } else {
+        Value::Unknown
+    }
+}
+
+// Whether a called function must preserve the register. Joined by `&` and `|`, so that a loop over all registers has no branches.
 pub fn is_callee_saved(r: u32) -> bool
     ensures { λ b. ⌜ b ≡ kept r ⌝ }
 {
-    match r {
-        2..=4 | 8..=9 | 18..=27 => true,
-        _ => false,
-    }
+    (2 <= r) & (r < 5) | (8 <= r) & (r < 10) | (18 <= r) & (r < 28)
 }

@@ -4,20 +4,20 @@ use borrow.Author.Needs.{needs}
 use Rattle.cfi_unwind.proofs.base_of.Statement.{statement}
 use Rattle.cfi_unwind.proofs.base_of.Tie as tie
 
-get-requires : tie.Need-get-requires
-get-requires c κs = search needs
+read-requires : tie.Need-read-requires
+read-requires c κs = search needs
 
 returns : tie.Need-returns
-returns c = rw (eq-eqb _ _ (c .before .if1 .taken), baseOf) (c .get .ensures)
+returns c = rw (eq-eqb _ _ (c .before .if1 .taken), baseOf) (c .read .ensures)
 
 returns-2 : tie.Need-returns-2
 returns-2 c = rw (ne-eqb _ _ (c .before .if1 .left), baseOf, c .if2 .taken)
 
-get-requires-2 : tie.Need-get-requires-2
-get-requires-2 c κs = search needs
+read-requires-2 : tie.Need-read-requires-2
+read-requires-2 c κs = search needs
 
 returns-3 : tie.Need-returns-3
-returns-3 c = rw (ne-eqb _ _ (c .before .before .if1 .left), baseOf, c .before .if2 .left) (c .get2 .ensures)
+returns-3 c = rw (ne-eqb _ _ (c .before .before .if1 .left), baseOf, c .before .if2 .left) (c .read2 .ensures)
 
 pub base-of-spec : {M : Type 1} → statement M
-base-of-spec = tie.close (tie.spec get-requires returns returns-2 get-requires-2 returns-3)
+base-of-spec = tie.close (tie.spec read-requires returns returns-2 read-requires-2 returns-3)

@@ -2,7 +2,8 @@ use Rattle.cfi_unwind.proofs.StepLaws.{rules-next, rules-end}
 use mathlib.Core.Path.{_≡_, refl, sym, _∙_}
 use Rattle.cfi_unwind.specs.Step.{byRules}
 use Rattle.rows.specs.View.{ruleList}
-use Rattle.registers.specs.Registers.{reads}
+use Rattle.registers.specs.Registers.{reads, remade}
+use Rattle.registers.specs.declared.Registers.{Registers}
 use Rattle.memory.specs.Memory.{memoryOf, readAt}
 use Prim.Native.Nat.{_+_}
 use borrow.Author.Needs.{needs}
@@ -10,12 +11,12 @@ use Rattle.cfi_unwind.proofs.caller_of.Statement.{statement}
 use Rattle.cfi_unwind.proofs.caller_of.Tie as tie
 
 abbrev Inv-loop : tie.InvT-loop
-Inv-loop rules segments words registers cfa caller₀ k₀ left₀ caller k left = (k + left ≡ k₀ + left₀)
-    × (byRules (readAt (memoryOf segments words)) (reads registers) cfa (ruleList rules left k) caller
-    ≡ byRules (readAt (memoryOf segments words)) (reads registers) cfa (ruleList rules left₀ k₀) caller₀)
+Inv-loop rules segments words cfa registers start mask₀ values₀ k₀ left₀ mask values k left = (k + left ≡ k₀ + left₀)
+    × ((s : Registers) → byRules (readAt (memoryOf segments words)) (reads registers) cfa (ruleList rules left k) (remade s mask values)
+    ≡ byRules (readAt (memoryOf segments words)) (reads registers) cfa (ruleList rules left₀ k₀) (remade s mask₀ values₀))
 
 abbrev μ-loop : tie.MeasureT-loop
-μ-loop rules segments words registers cfa caller₀ k₀ left₀ caller k left = left
+μ-loop rules segments words cfa registers start mask₀ values₀ k₀ left₀ mask values k left = left
 
 keepers-requires : tie.Need-keepers-requires Inv-loop μ-loop
 keepers-requires c κs = search needs
@@ -24,7 +25,7 @@ set-requires : tie.Need-set-requires Inv-loop μ-loop
 set-requires c κs = search needs
 
 loop-holds : tie.Need-loop-holds Inv-loop μ-loop
-loop-holds c = (refl, refl)
+loop-holds c = (refl, λ s. refl)
 
 word-requires : tie.Need-word-requires Inv-loop μ-loop
 word-requires c κs = search needs
@@ -48,10 +49,10 @@ loop-less : tie.Need-loop-less Inv-loop μ-loop
 loop-less c = search needs
 
 loop-again : tie.Need-loop-again Inv-loop μ-loop
-loop-again c = (search needs, rules-next _ _ _ _ _ _ _ _ _ _ _ (c .before .before .before .before .loop-test .taken) (c .rule-to .ensures) (c .before .before .before .word .ensures) (c .before .before .word2 .ensures) (c .before .word3 .ensures) ∙ c .before .before .before .before .before .loop .inv .1)
+loop-again c = (search needs, λ s. rules-next _ _ _ _ _ _ _ _ _ _ _ (c .before .before .before .before .before .before .before .loop-test .taken) (c .rule-to .ensures s) (c .before .before .before .before .before .before .word .ensures) (c .before .before .before .before .before .word2 .ensures) (c .before .before .before .before .word3 .ensures) ∙ c .before .before .before .before .before .before .before .before .loop .inv .1 s)
 
 returns : tie.Need-returns Inv-loop μ-loop
-returns c = sym (rules-end _ _ _ _ _ _ _ (c .loop-test .left)) ∙ c .before .loop .inv .1 ∙ rw (c .before .before .set .ensures, c .before .before .before .keepers .ensures)
+returns c = sym (rules-end _ _ _ _ _ _ _ (c .loop-test .left)) ∙ c .before .loop .inv .1 (c .before .before .before .set .result) ∙ rw (c .before .before .before .set .ensures, c .before .before .before .before .keepers .ensures)
 
 pub caller-of-spec : {M : Type 1} → statement M
 caller-of-spec =

@@ -1,4 +1,5 @@
 use Rattle.cfi_unwind.specs.Step.{baseOf}
+use Rattle.cfi_unwind.specs.Answers.{registersBy}
 use Rattle.rows.specs.View.{rowSeen}
 use mathlib.Core.List.{[]}
 use Rattle.cfi_unwind.specs.Step.{frameAddress}
@@ -29,21 +30,21 @@ enum-told-2 c = search needs
 
 returns-2 : tie.Need-returns-2
 unfolding frameAddress
-returns-2 c = rw (eq-eqb _ _ (c .before .before .before .before .before .if1 .left), frameAddress, value-unknown (baseOf (c .before .before .before .before .before .before .before .args .registers) (rowSeen [] (c .before .before .before .before .before .before .before .args .row))) _ (c .before .before .before .before .base-of .ensures) (c .before .before .enum-told .given .1), c .enum-told2 .given .1)
+returns-2 c = rw (eq-eqb _ _ (c .before .before .before .before .before .if1 .left), frameAddress, value-unknown (baseOf (registersBy 0 (c .before .before .before .before .before .before .before .args .place) (c .before .before .before .before .before .before .before .args .mask) (c .before .before .before .before .before .before .before .args .values .now)) (rowSeen [] (c .before .before .before .before .before .before .before .args .row))) _ (c .before .before .before .before .base-of .ensures) (c .before .before .enum-told .given .1), c .enum-told2 .given .1)
 
 wrapping-add-u32-requires : tie.Need-wrapping-add-u32-requires
 wrapping-add-u32-requires c κs = search needs
 
 returns-3 : tie.Need-returns-3
 unfolding frameAddress
-returns-3 c = rw (eq-eqb _ _ (c .before .before .before .before .before .before .before .if1 .left), frameAddress, value-unknown (baseOf (c .before .before .before .before .before .before .before .before .before .args .registers) (rowSeen [] (c .before .before .before .before .before .before .before .before .before .args .row))) _ (c .before .before .before .before .before .before .base-of .ensures) (c .before .before .before .before .enum-told .given .1), c .before .before .offset .given .1, c .wrapping-add-u32 .ensures)
+returns-3 c = rw (eq-eqb _ _ (c .before .before .before .before .before .before .before .if1 .left), frameAddress, value-unknown (baseOf (registersBy 0 (c .before .before .before .before .before .before .before .before .before .args .place) (c .before .before .before .before .before .before .before .before .before .args .mask) (c .before .before .before .before .before .before .before .before .before .args .values .now)) (rowSeen [] (c .before .before .before .before .before .before .before .before .before .args .row))) _ (c .before .before .before .before .before .before .base-of .ensures) (c .before .before .before .before .enum-told .given .1), c .before .before .offset .given .1, c .wrapping-add-u32 .ensures)
 
 wrapping-add-u32-requires-2 : tie.Need-wrapping-add-u32-requires-2
 wrapping-add-u32-requires-2 c κs = search needs
 
 returns-4 : tie.Need-returns-4
 unfolding frameAddress
-returns-4 c = rw (eq-eqb _ _ (c .before .before .before .before .before .if1 .left), frameAddress, value-known (baseOf (c .before .before .before .before .before .before .before .args .registers) (rowSeen [] (c .before .before .before .before .before .before .before .args .row))) _ _ (c .before .before .before .before .base-of .ensures) (c .before .before .base .given .1), c .wrapping-add-u322 .ensures)
+returns-4 c = rw (eq-eqb _ _ (c .before .before .before .before .before .if1 .left), frameAddress, value-known (baseOf (registersBy 0 (c .before .before .before .before .before .before .before .args .place) (c .before .before .before .before .before .before .before .args .mask) (c .before .before .before .before .before .before .before .args .values .now)) (rowSeen [] (c .before .before .before .before .before .before .before .args .row))) _ _ (c .before .before .before .before .base-of .ensures) (c .before .before .base .given .1), c .wrapping-add-u322 .ensures)
 
 pub frame-address-spec : {M : Type 1} → statement M
 frame-address-spec =

@@ -13,10 +13,10 @@ use Rattle.cfi_unwind.proofs.put_rebuilt.Statement.{statement}
 use Rattle.cfi_unwind.proofs.put_rebuilt.Tie as tie
 
 abbrev Inv-loop : tie.InvT-loop
-Inv-loop frames₀ n count cfa links sp₀ i₀ frames sp i = (i ≤ count) × (sp ≡ (inner cfa (linksIn links i)) .1) × (frames ≡ written (frameWords * n) (recordsOf (framesIn links cfa i)) frames₀) × (length frames ≡ length frames₀)
+Inv-loop frames₀ n links count cfa sp₀ i₀ frames sp i = (i ≤ count) × (sp ≡ (inner cfa (linksIn links i)) .1) × (frames ≡ written (frameWords * n) (recordsOf (framesIn links cfa i)) frames₀) × (length frames ≡ length frames₀)
 
 abbrev μ-loop : tie.MeasureT-loop
-μ-loop frames₀ n count cfa links sp₀ i₀ frames sp i = count - i
+μ-loop frames₀ n links count cfa sp₀ i₀ frames sp i = count - i
 
 loop-holds : tie.Need-loop-holds Inv-loop μ-loop
 loop-holds c = (search needs, sp-none _ _, rebuilt-start _ _ _ _, refl)
@@ -33,11 +33,11 @@ add-put c = search needs
 mul-put : tie.Need-mul-put Inv-loop μ-loop
 mul-put c = search needs
 
-array-read-put : tie.Need-array-read-put Inv-loop μ-loop
-array-read-put c = search needs
+element-copy-out-put : tie.Need-element-copy-out-put Inv-loop μ-loop
+element-copy-out-put c = search needs
 
 put-requires : tie.Need-put-requires Inv-loop μ-loop
-put-requires c κs = (omega (arith, c .before .before .before .before .before .pre, c .before .before .before .loop .inv), omega (arith, c .before .before .before .before .before .pre, c .before .before .before .loop .inv))
+put-requires c κs = (omega (arith, c .before .before .before .before .before .before .pre, c .before .before .before .before .loop .inv), omega (arith, c .before .before .before .before .before .before .pre, c .before .before .before .before .loop .inv))
 
 add-wrapping-add-u32 : tie.Need-add-wrapping-add-u32 Inv-loop μ-loop
 add-wrapping-add-u32 c = search needs
@@ -45,8 +45,8 @@ add-wrapping-add-u32 c = search needs
 mul-wrapping-add-u32 : tie.Need-mul-wrapping-add-u32 Inv-loop μ-loop
 mul-wrapping-add-u32 c = search needs
 
-array-read-wrapping-add-u32 : tie.Need-array-read-wrapping-add-u32 Inv-loop μ-loop
-array-read-wrapping-add-u32 c = search needs
+element-copy-out-wrapping-add-u32 : tie.Need-element-copy-out-wrapping-add-u32 Inv-loop μ-loop
+element-copy-out-wrapping-add-u32 c = search needs
 
 wrapping-add-u32-requires : tie.Need-wrapping-add-u32-requires Inv-loop μ-loop
 wrapping-add-u32-requires c κs = search needs
@@ -58,7 +58,7 @@ loop-less : tie.Need-loop-less Inv-loop μ-loop
 loop-less c = search needs
 
 loop-again : tie.Need-loop-again Inv-loop μ-loop
-loop-again c = (search needs, sp-more _ _ _ _ _ _ (c .before .before .before .before .before .before .before .loop .inv .1) (c .before .before .before .before .before .wide .ensures) (c .wrapping-add-u32 .ensures), rebuilt-next _ _ _ _ _ _ _ _ _ (omega (arith, c .before .before .before .before .before .before .before .before .before .pre)) (c .before .before .before .before .before .before .before .loop .inv .2) (c .before .before .before .before .before .before .before .loop .inv .1) (c .before .before .before .before .before .wide .ensures) (c .before .before .before .put .ensures), search needs)
+loop-again c = (search needs, sp-more _ _ _ _ _ _ (c .before .before .before .before .before .before .before .before .before .loop .inv .1) (c .before .before .before .before .before .before .before .wide .ensures) (c .wrapping-add-u32 .ensures), rebuilt-next _ _ _ _ _ _ _ _ _ (omega (arith, c .before .before .before .before .before .before .before .before .before .before .before .pre)) (c .before .before .before .before .before .before .before .before .before .loop .inv .2) (c .before .before .before .before .before .before .before .before .before .loop .inv .1) (c .before .before .before .before .before .before .before .wide .ensures) (c .before .before .before .before .put .ensures), search needs)
 
 same-length : tie.Need-same-length Inv-loop μ-loop
 same-length c = search needs
@@ -77,11 +77,11 @@ put-rebuilt-spec =
     wide-requires
     add-put
     mul-put
-    array-read-put
+    element-copy-out-put
     put-requires
     add-wrapping-add-u32
     mul-wrapping-add-u32
-    array-read-wrapping-add-u32
+    element-copy-out-wrapping-add-u32
     wrapping-add-u32-requires
     add-i
     loop-less

@@ -26,7 +26,7 @@ enum-known-cfa : tie.Need-enum-known-cfa
 enum-known-cfa c = search needs
 
 above-requires : tie.Need-above-requires
-above-requires c κs = (row-fits _ _ _ _ (c .before .before .before .before .before .before .before .before .before .before .before .before .before .before .pre .0) (c .before .before .before .before .before .before .before .row-for .ensures) (c .before .before .before .before .before .row .given .1), c .before .before .before .before .before .before .before .before .before .before .before .before .before .before .pre .1)
+above-requires c κs = (row-fits _ _ _ _ (c .before .before .before .before .before .before .before .before .before .before .before .before .before .before .before .before .pre .0) (c .before .before .before .before .before .before .before .before .before .row-for .ensures) (c .before .before .before .before .before .before .before .row .given .1), c .before .before .before .before .before .before .before .before .before .before .before .before .before .before .before .before .pre .1)
 
 enum-known-cfa-2 : tie.Need-enum-known-cfa-2
 enum-known-cfa-2 c = search needs
@@ -35,10 +35,10 @@ halt-requires : tie.Need-halt-requires
 halt-requires c κs = search needs
 
 returns-2 : tie.Need-returns-2
-returns-2 c = step-above _ _ _ _ _ _ _ (c .before .before .before .before .before .before .before .before .row-for .ensures) _ (c .before .before .before .before .before .before .row .given .1) _ (c .before .before .before .before .frame-address .ensures) _ (c .before .before .cfa .given .1) (c .above .ensures)
+returns-2 c = step-above _ _ _ _ _ _ _ (c .before .before .before .before .before .before .before .before .before .before .row-for .ensures) _ (c .before .before .before .before .before .before .before .before .row .given .1) _ (c .before .before .before .before .frame-address .ensures) _ (c .before .before .cfa .given .1) (c .above .ensures)
 
 returns-3 : tie.Need-returns-3
-returns-3 c = step-halt _ _ _ _ _ _ _ (c .before .before .before .before .before .before .before .before .row-for .ensures) _ (c .before .before .before .before .before .before .row .given .1) _ (c .before .before .before .before .frame-address .ensures) _ (c .before .before .cfa2 .given .1) (c .halt .ensures)
+returns-3 c = step-halt _ _ _ _ _ _ _ (c .before .before .before .before .before .before .before .before .before .before .row-for .ensures) _ (c .before .before .before .before .before .before .before .before .row .given .1) _ (c .before .before .before .before .frame-address .ensures) _ (c .before .before .cfa2 .given .1) (c .halt .ensures)
 
 pub step-spec : {M : Type 1} → statement M
 step-spec =

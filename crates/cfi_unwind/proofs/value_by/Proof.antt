@@ -7,8 +7,8 @@ use borrow.Author.Needs.{needs}
 use Rattle.cfi_unwind.proofs.value_by.Statement.{statement}
 use Rattle.cfi_unwind.proofs.value_by.Tie as tie
 
-get-requires : tie.Need-get-requires
-get-requires c κs = search needs
+read-requires : tie.Need-read-requires
+read-requires c κs = search needs
 
 wrapping-add-u32-requires : tie.Need-wrapping-add-u32-requires
 wrapping-add-u32-requires c κs = search needs
@@ -30,12 +30,12 @@ returns c = let h : c .before .before .before .wrapping-add-u32 .result < 2 ^ 32
 wrapping-add-u32-requires-2 : tie.Need-wrapping-add-u32-requires-2
 wrapping-add-u32-requires-2 c κs = search needs
 
-get-requires-2 : tie.Need-get-requires-2
-get-requires-2 c κs = search needs
+read-requires-2 : tie.Need-read-requires-2
+read-requires-2 c κs = search needs
 
 returns-2 : tie.Need-returns-2
 unfolding valueBy
-returns-2 c = rw (c .before .match .keys1) (c .get .ensures)
+returns-2 c = rw (c .before .match .keys1) (c .read .ensures)
 
 returns-3 : tie.Need-returns-3
 unfolding valueBy
@@ -48,7 +48,7 @@ returns-4 c = rw (c .before .match .keys3, c .wrapping-add-u322 .ensures)
 
 returns-5 : tie.Need-returns-5
 unfolding valueBy
-returns-5 c = rw (c .before .match .keys4) (c .get2 .ensures)
+returns-5 c = rw (c .before .match .keys4) (c .read2 .ensures)
 
 returns-6 : tie.Need-returns-6
 unfolding valueBy
@@ -62,14 +62,14 @@ pub value-by-spec : {M : Type 1} → statement M
 value-by-spec =
     tie.close
     (tie.spec
-    get-requires
+    read-requires
     wrapping-add-u32-requires
     read-u32-requires
     enum-known-w
     enum-told
     returns
     wrapping-add-u32-requires-2
-    get-requires-2
+    read-requires-2
     returns-2
     returns-3
     returns-4
