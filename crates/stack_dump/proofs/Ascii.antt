@@ -1,21 +1,43 @@
--- Whether no byte is above 127, by the sum of their highest bits. Assumes nothing.
-use Prim.Native.Nat.{ℕ, zero, suc, _+_, _/_}
+-- Whether no byte is above 127, by the largest of them. Assumes nothing.
+use Prim.Native.Nat.{ℕ, _+_, _≤_}
 use mathlib.Core.Path.{_≡_, refl}
-use mathlib.Core.Bool.{and-false}
+use mathlib.Core.Bool.{_&&_}
+use mathlib.Core.List.{List}
+use native.Mathlib.Numerals.{add-one}
 use native.Mathlib.Omega.{arith}
-use lib.Dec.{eqb, ltb}
-use borrow.Author.Tests.{ltb-true, ltb-false, ne-eqb}
-use Rattle.words.specs.Words.{sum, all}
+use lib.Dec.{ltb}
+use lib.ListN.{length, getD}
+use borrow.Author.Tests.{ltb-true, ltb-false, lt-ltb}
+use Rattle.words.specs.Words.{all}
 use Rattle.words.proofs.Cases.{by-bool}
+use Rattle.stack_dump.specs.Lines.{largerOf, isAscii}
 
-pub sum-ascii : (f : ℕ → ℕ) (n : ℕ) → eqb (sum n (λ k. f k / 128)) 0 ≡ all n (λ k. ltb (f k) 128)
-unfolding sum all
-sum-ascii f zero = refl
-sum-ascii f (suc n) =
-    by-bool (ltb (f n) 128)
+-- the larger of two is below 128 where both are
+larger-below : (a b : ℕ) → ltb (largerOf a b) 128 ≡ (ltb a 128 && ltb b 128)
+larger-below a b =
+    by-bool (ltb a b)
     (λ y.
-    let z : f n / 128 ≡ 0 = omega (arith, ltb-true (f n) 128 y) in
-    let e : sum n (λ k. f k / 128) + 0 ≡ sum n (λ k. f k / 128) = omega arith in
-    rw (z, e, y, ← sum-ascii f n) (by-bool (eqb (sum n (λ k. f k / 128)) 0) (λ b. rw b) (λ b. rw b)))
+    by-bool (ltb b 128)
+    (λ z. rw (y, z, lt-ltb a 128 (omega (arith, ltb-true a b y, ltb-true b 128 z))))
+    (λ z. rw (y, z) (by-bool (ltb a 128) (λ w. rw w) (λ w. rw w))))
     (λ y.
-    rw (y, and-false) (ne-eqb (sum n (λ k. f k / 128) + f n / 128) 0 (λ e. omega (arith, ltb-false (f n) 128 y))))
+    by-bool (ltb a 128)
+    (λ z. rw (y, z, lt-ltb b 128 (omega (arith, ltb-false a b y, ltb-true a 128 z))))
+    (λ z. rw (y, z)))
+
+module _ (s : List ℕ) where
+  -- none yet
+  pub below-none : ltb 0 128 ≡ all 0 (λ k. ltb (getD s k 0) 128)
+  unfolding all
+  below-none = refl
+
+  -- one more byte
+  pub below-more : (i high : ℕ) → ltb high 128 ≡ all i (λ k. ltb (getD s k 0) 128)
+      → ltb (largerOf high (getD s i 0)) 128 ≡ all (i + 1) (λ k. ltb (getD s k 0) 128)
+  unfolding all
+  below-more i high e = rw (add-one, larger-below high (getD s i 0), e)
+
+  -- all of them
+  pub below-end : (i high : ℕ) → ltb high 128 ≡ all i (λ k. ltb (getD s k 0) 128) → i ≤ length s → length s ≤ i → ltb high 128 ≡ isAscii s
+  unfolding isAscii
+  below-end i high e h k = let q : length s ≡ i = omega arith in rw q e

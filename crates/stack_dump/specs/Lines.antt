@@ -1,6 +1,6 @@
 -- What a line does to both collectors and to the four lent lists (document 01, "Collectors"; refusals 1, 2, 3).
 use Prim.Native.Nat.{ℕ}
-use mathlib.Core.Bool.{Bool, true, false, _&&_}
+use mathlib.Core.Bool.{Bool, true, false, _&&_, cond}
 use mathlib.Core.List.{List, [], _∷_}
 use mathlib.Core.Option.{Option, none, some}
 use lib.Dec.{leb, ltb}
@@ -37,6 +37,10 @@ pub record Lent : Type 0 where
 -- the four lists as one
 abbrev pub lentOf : List ℕ → List ℕ → List ℕ → List ℕ → Lent
 lentOf iw is dw ds = record { idfWords = iw; idfSegments = is; sdWords = dw; sdSegments = ds }
+
+-- the larger of two numbers
+abbrev pub largerOf : ℕ → ℕ → ℕ
+largerOf a b = cond (ltb a b) b a
 
 -- no byte is above 127
 unfoldable pub isAscii : List ℕ → Bool

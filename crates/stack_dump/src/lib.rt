@@ -9,7 +9,7 @@ ghost use mathlib.Core.Path.{_≡_};
 ghost use Prim.Native.Nat.{_*_};
 ghost use lib.ListN.{take};
 ghost use Rattle.esp_backtrace.specs.declared.Line.the-variants as backtrace;
-ghost use Rattle.stack_dump.specs.Lines.{lentOf, isAscii, idfFits, refusedBy, lineBy, answered, fed, lentAfter, heldIn};
+ghost use Rattle.stack_dump.specs.Lines.{lentOf, largerOf, isAscii, idfFits, refusedBy, lineBy, answered, fed, lentAfter, heldIn};
 
 // Which collector's lent lists hold a dump.
 pub enum Holder {
@@ -34,17 +34,24 @@ pub struct Fed {
     pub memory: StackMemory,
 }
 
-// Whether no byte is above 127. The sum has no way out of the loop, so that it runs over many bytes at once.
+// The larger of two bytes.
+fn larger(a: u8, b: u8) -> u8
+    ensures { λ r. ⌜ r ≡ largerOf a b ⌝ }
+{
+    if a < b { b } else { a }
+}
+
+// Whether no byte is above 127. The loop has no way out but its end, so that it runs over many bytes at once.
 fn is_ascii(line: &[u8]) -> bool
     ensures { λ r. ⌜ r ≡ isAscii (now (line .entry)) ⌝ }
 {
-    let mut above: usize = 0;
+    let mut highest = 0u8;
     let mut i = 0;
     while i < line.len() {
-        above += (line[i] / 128) as usize;
+        highest = larger(highest, line[i]);
         i += 1;
     }
-    above == 0
+    highest < 128
 }
 
 // The answer that refuses: the collector as it was, and no dump.

@@ -1,33 +1,29 @@
--- `stack_dump::is_ascii` meets its contract. The loop's invariant: the sum of the bytes passed, one at most for each. Assumes nothing.
-use Prim.Native.Nat.{_-_, _/_, _≤_}
-use mathlib.Core.Path.{_≡_, sym}
+-- `stack_dump::is_ascii` meets its contract. The loop's invariant: the largest byte passed is below 128 where all of them are. Assumes nothing.
+use Prim.Native.Nat.{_-_, _≤_}
+use mathlib.Core.Path.{_≡_}
+use lib.Dec.{ltb}
 use lib.ListN.{length, getD}
-use Rattle.words.specs.Words.{sum}
-use Rattle.words.proofs.Laws.{sum-none, sum-more, sum-end}
-use Rattle.stack_dump.specs.Lines.{isAscii}
-use Rattle.stack_dump.proofs.Ascii.{sum-ascii}
+use Rattle.words.specs.Words.{all}
+use Rattle.stack_dump.proofs.Ascii.{below-none, below-more, below-end}
 use borrow.Author.Needs.{needs}
 use native.Mathlib.Omega.{arith}
 use Rattle.stack_dump.proofs.is_ascii.Statement.{statement}
 use Rattle.stack_dump.proofs.is_ascii.Tie as tie
 
 abbrev Inv-loop : tie.InvT-loop
-Inv-loop line above₀ i₀ above i = (above ≡ sum i (λ k. getD line k 0 / 128)) × (above ≤ i) × (i ≤ length line)
+Inv-loop line highest₀ i₀ highest i = (ltb highest 128 ≡ all i (λ k. ltb (getD line k 0) 128)) × (i ≤ length line)
 
 abbrev μ-loop : tie.MeasureT-loop
-μ-loop line above₀ i₀ above i = length line - i
+μ-loop line highest₀ i₀ highest i = length line - i
 
 loop-holds : tie.Need-loop-holds Inv-loop μ-loop
-loop-holds c = (sym (sum-none _), omega arith, omega arith)
+loop-holds c = (below-none (c .before .args .line .now), omega arith)
 
-shared-slice-read-above : tie.Need-shared-slice-read-above Inv-loop μ-loop
-shared-slice-read-above c = search needs
+shared-slice-read-larger : tie.Need-shared-slice-read-larger Inv-loop μ-loop
+shared-slice-read-larger c = search needs
 
-cast-above : tie.Need-cast-above Inv-loop μ-loop
-cast-above c = omega (arith, c .shared-slice-known .given (c .before .before .loop .i))
-
-add-above : tie.Need-add-above Inv-loop μ-loop
-add-above c = omega (arith, c .shared-slice-known .given (c .before .before .loop .i))
+larger-requires : tie.Need-larger-requires Inv-loop μ-loop
+larger-requires c κs = search needs
 
 add-i : tie.Need-add-i Inv-loop μ-loop
 add-i c = search needs
@@ -36,11 +32,10 @@ loop-less : tie.Need-loop-less Inv-loop μ-loop
 loop-less c = search needs
 
 loop-again : tie.Need-loop-again Inv-loop μ-loop
-loop-again c = (rw (sum-more, c .before .before .loop .inv .0), omega (arith, c .shared-slice-known .given (c .before .before .loop .i)), omega arith)
+loop-again c = (rw (c .larger .ensures) (below-more (c .before .before .before .before .before .args .line .now) (c .before .before .before .loop .i) (c .before .before .before .loop .highest) (c .before .before .before .loop .inv .0)), omega arith)
 
 returns : tie.Need-returns Inv-loop μ-loop
-unfolding isAscii
-returns c = rw (sum-end _ _ _ _ (c .before .loop .inv .0) (c .before .loop .inv .2) (c .loop-test .left)) (sum-ascii (λ k. getD (c .before .before .args .line .now) k 0) _)
+returns c = below-end (c .before .before .before .args .line .now) (c .before .loop .i) (c .before .loop .highest) (c .before .loop .inv .0) (c .before .loop .inv .1) (c .loop-test .left)
 
 pub is-ascii-spec : {M : Type 1} → statement M
 is-ascii-spec =
@@ -49,9 +44,8 @@ is-ascii-spec =
     Inv-loop
     μ-loop
     loop-holds
-    shared-slice-read-above
-    cast-above
-    add-above
+    shared-slice-read-larger
+    larger-requires
     add-i
     loop-less
     loop-again
