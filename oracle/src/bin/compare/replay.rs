@@ -7,11 +7,11 @@
 
 use std::{collections::BTreeMap, fs, path::Path};
 
-use oracle::walk;
 use crate::replay_lines;
 use crate::{
     gen_walk, lists::Lists, options::Options, random::Random, show, shrink, tally::Tally, walks,
 };
+use oracle::walk;
 
 /// How many families of walks are looked through.
 const FAMILIES: u64 = 4_000;

@@ -1,6 +1,5 @@
 //! The comparison: every part of it, until a difference is found.
 
-use std::time::Instant;
 use crate::texts;
 use crate::{
     gen_caps, gen_walk, lists::Lists, options::Options, random::Random, real, show, shrink,
@@ -10,6 +9,7 @@ use crate::{
     gen_lines::{self, EXHAUSTIVE},
     lines::{self, Log},
 };
+use std::time::Instant;
 
 pub fn compare(options: &Options) -> Result<(), String> {
     let start = Instant::now();
