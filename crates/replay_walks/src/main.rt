@@ -1,5 +1,6 @@
-// Replays walks that the Rust has answered. Standard input is case after case, as `oracle/compare replay` writes them: a line `case=SHEET,ANSWER` with
-// two lengths of five digits, a case sheet, and the Rust's answer, which has no line `used=`. Says which cases differ, and how many there were.
+// Replays walks whose answers are known: document 01's edges of the sheet, then what the Rust answered, as `oracle/compare replay` writes it. Standard
+// input is case after case: a line `case=SHEET,ANSWER` with two lengths of five digits, a case sheet, and the answer, which may leave out the line `used=`.
+// Says which cases differ, and how many there were.
 use sheet_walk::Printed;
 ghost use Prim.Native.Nat.{_+_, _≤_, _<_};
 ghost use lib.ListN.{length};
