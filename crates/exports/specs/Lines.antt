@@ -56,11 +56,12 @@ collectorIn w registers values taken =
       stack = record { words = getD taken 0 0; segments = getD taken 1 0 };
     }
 
--- the words that hand a collector's state back
+-- the state's number, pc and whether the registers are known, as words
 abbrev pub stateBy : Value → ℕ → ℕ → List ℕ
 stateBy Unknown number known = number ∷ 0 ∷ 0 ∷ known ∷ []
 stateBy (Known pc) number known = number ∷ 1 ∷ pc ∷ known ∷ []
 
+-- the words that hand a collector's state back
 unfoldable pub stateWords : EspIdf → List ℕ
 stateWords c = stateBy (c .pc) (stateNumber (c .state)) (flag (c .known))
 
@@ -86,6 +87,7 @@ pub record Handed : Type 0 where
   pub dumpValues : List ℕ
   pub held : List ℕ
 
+-- all of that as one
 abbrev pub handed : ℕ → Lent → List ℕ → List ℕ → List ℕ → List ℕ → List ℕ → List ℕ → List ℕ → List ℕ → Handed
 handed n l s r v t a d x h =
     record { number = n; lent = l; state = s; registers = r; values = v; taken = t; answer = a; dump = d; dumpValues = x; held = h }
@@ -103,7 +105,8 @@ dumpBack n f l =
 
 -- a refusal changes nothing; a line that completed a dump hands it back too
 abbrev pub handedBack : Line → Handed → Fed → Lent → Handed
-handedBack (line.Refused r) h f l = record { number = refusalNumber r; lent = l; state = h .state; registers = h .registers; values = h .values; taken = h .taken; answer = h .answer; dump = h .dump; dumpValues = h .dumpValues; held = h .held }
+handedBack (line.Refused r) h f l =
+    handed (refusalNumber r) l (h .state) (h .registers) (h .values) (h .taken) (h .answer) (h .dump) (h .dumpValues) (h .held)
 handedBack line.Other h f l = toldBack 0 h (f .collector) l
 handedBack line.Data h f l = toldBack 1 h (f .collector) l
 handedBack (line.Complete x) h f l = dumpBack (completeNumber x) f l
