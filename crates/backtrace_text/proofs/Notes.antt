@@ -5,9 +5,9 @@ use mathlib.Core.Path.{_≡_, refl}
 use types.Run.{OneOf, miss}
 use denote.Enum.Declared.{tagOf}
 use Rattle.words.specs.Text.{bytes}
-use Rattle.cfi_unwind.proofs.Stop as stop-type
-use Rattle.cfi_unwind.specs.declared.Stop.{Stop}
-use Rattle.cfi_unwind.specs.declared.Stop.the-variants.{EndOfStack, ReturnAddressLost, NoUnwindInfo, MemoryUnavailable, UnknownRegister, Unsupported, TooManyFrames, Inconsistent, BudgetSpent}
+use Rattle.stop.proofs.Stop as stop-type
+use Rattle.stop.specs.declared.Stop.{Stop}
+use Rattle.stop.specs.declared.Stop.the-variants.{EndOfStack, ReturnAddressLost, NoUnwindInfo, MemoryUnavailable, UnknownRegister, Unsupported, TooManyFrames, Inconsistent, BudgetSpent}
 use Rattle.backtrace_text.specs.Notes.{note, noteLine}
 use Rattle.backtrace_text.specs.Answers.{said}
 

@@ -1,17 +1,15 @@
--- The text where it fits, and the ways through `print_backtrace`: the frame limit and the frame list are such that of the walk's
+-- The ways through `print_backtrace`: the frame limit and the frame list are such that of the walk's
 -- refusals only 4, 5 and 6 can come. Assumes nothing.
-use Prim.Native.Nat.{ℕ, _*_, _<_, _≤_}
-use mathlib.Core.Bool.{true, false}
+use Prim.Native.Nat.{ℕ, _*_, _≤_}
+use mathlib.Core.Bool.{false}
 use mathlib.Core.List.{List, [], _∷_}
 use mathlib.Core.Option.{Option, none, some, Option·some-ne-none}
 use mathlib.Core.Path.{_≡_, sym, ap, _∙_}
 use native.Mathlib.Omega.{arith}
 use lib.Dec.{leb}
 use lib.ListN.{length, drop, length-append}
-use borrow.Author.Tests.{le-leb, lt-leb}
 use Rattle.words.proofs.Cases.{by-bool, by-option}
-use Rattle.digits.specs.Digits.{Stored}
-use Rattle.digits.proofs.Pieces.{stored-whole}
+use Rattle.digits.specs.Printed.{fitted, headed}
 use Rattle.book.specs.Book.{Book}
 use Rattle.book.specs.Good.{bookIsGood}
 use Rattle.code.specs.Code.{Code, codeIsGood}
@@ -20,7 +18,7 @@ use Rattle.registers.specs.declared.Registers.{Registers}
 use Rattle.refusal.specs.Refusal.{firstRefusal}
 use Rattle.refusal.specs.declared.Refusal.{Refusal}
 use Rattle.refusal.specs.declared.Refusal.the-variants.{BadBook, BadCode, BadDump, NoRoom}
-use Rattle.cfi_unwind.specs.declared.Stop.{Stop}
+use Rattle.stop.specs.declared.Stop.{Stop}
 use Rattle.cfi_unwind.specs.declared.Answer.{Answer}
 use Rattle.cfi_unwind.specs.declared.Answer.the-variants as answer
 use Rattle.cfi_unwind.specs.Walk.{Walked, walkOf}
@@ -28,29 +26,11 @@ use Rattle.cfi_unwind.specs.Unwind as walk
 use Rattle.cfi_unwind.specs.Unwind.{frameWords, recordsOf, walkedBy, framesBy, answerOf, framesOf}
 use Rattle.cfi_unwind.proofs.ListLaws.{records-length}
 use Rattle.backtrace_text.specs.Backtrace.{maxFrames, page, backtrace, refusalOf, printedOf, textAfter}
-use Rattle.backtrace_text.specs.Answers.{entriesIn, fitted, headed}
-use Rattle.backtrace_text.specs.declared.Printed.{Printed}
-use Rattle.backtrace_text.specs.declared.Printed.the-variants as printed
+use Rattle.backtrace_text.specs.Answers.{entriesIn}
+use Rattle.digits.specs.declared.Printed.{Printed}
+use Rattle.digits.specs.declared.Printed.the-variants as printed
 use Rattle.memory.proofs.Laws.{words-upto}
 use Rattle.backtrace_text.proofs.Entries.{entries-read}
-
--- a text whose length was found first
-module _ {l m page : List ℕ} {r : ℕ} (s : Stored l 0 page r m) (text : List ℕ) where
-  measured : r ≡ length page
-  measured = omega (arith, s .end)
-
-  pub too-long : length text < r → (printed.Refused NoRoom ≡ fitted page (length text)) × (text ≡ headed page text)
-  unfolding fitted headed
-  too-long h =
-      let e : leb (length page) (length text) ≡ false = lt-leb _ _ (rw measured at h) in
-      (rw (e, fitted), rw (e, headed))
-
-  pub fits : {after : List ℕ} {k : ℕ} → r ≤ length text → Stored text 0 page k after → (printed.Text r ≡ fitted page (length text)) × (after ≡ headed page text)
-  unfolding fitted headed
-  fits h p =
-      let g : length page ≤ length text = rw measured at h in
-      let e : leb (length page) (length text) ≡ true = le-leb _ _ g in
-      (rw (e, fitted) (ap printed.Text measured), rw (e, headed) (stored-whole p g))
 
 module _ (b : Book) (c : Code) (m : Memory) (s : Registers) (allowance : ℕ) where
   -- the walk as `print_backtrace` asks for it, and what it answers

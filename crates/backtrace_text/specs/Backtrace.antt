@@ -17,10 +17,10 @@ use Rattle.refusal.specs.Refusal.{firstRefusal}
 use Rattle.refusal.specs.declared.Refusal.{Refusal}
 use Rattle.refusal.specs.declared.Refusal.the-variants.{BadBook, BadCode, BadDump, NoRoom}
 use Rattle.cfi_unwind.specs.Walk.{walkOf}
-use Rattle.cfi_unwind.specs.declared.Stop.{Stop}
+use Rattle.stop.specs.declared.Stop.{Stop}
 use Rattle.backtrace_text.specs.Notes.{note, noteLine}
-use Rattle.backtrace_text.specs.declared.Printed.{Printed}
-use Rattle.backtrace_text.specs.declared.Printed.the-variants as printed
+use Rattle.digits.specs.declared.Printed.{Printed}
+use Rattle.digits.specs.declared.Printed.the-variants as printed
 
 -- the frame limit of a backtrace
 abbrev pub maxFrames : ℕ

@@ -6,8 +6,8 @@ use lib.ListN.{getD}
 use Rattle.words.specs.Text.{bytes}
 use Rattle.digits.specs.Digits.{hex8, decimal}
 use Rattle.registers.specs.Registers.{registerNames}
-use Rattle.cfi_unwind.specs.declared.Stop.{Stop}
-use Rattle.cfi_unwind.specs.declared.Stop.the-variants.{EndOfStack, ReturnAddressLost, NoUnwindInfo, MemoryUnavailable, UnknownRegister, Unsupported, TooManyFrames, Inconsistent, BudgetSpent}
+use Rattle.stop.specs.declared.Stop.{Stop}
+use Rattle.stop.specs.declared.Stop.the-variants.{EndOfStack, ReturnAddressLost, NoUnwindInfo, MemoryUnavailable, UnknownRegister, Unsupported, TooManyFrames, Inconsistent, BudgetSpent}
 
 -- the name of a register, `a register` from 32 on
 unfoldable pub nameOf : ℕ → List ℕ

@@ -2,9 +2,11 @@
 // The text is made twice: once for its length, into a byte that is thrown away, and once to stay, so that a text that does not fit
 // leaves the lent bytes as they were.
 use cfi_unwind::Answer;
-use cfi_unwind::Stop;
+use cfi_unwind::FRAME_WORDS;
+use digits::Printed;
 use refusal::Refusal;
 use registers::Registers;
+use stop::Stop;
 ghost use mathlib.Core.Path.{_≡_};
 ghost use mathlib.Core.List.{_++_};
 ghost use Prim.Native.Nat.{_+_, _*_, _^_, _≤_, _<_};
@@ -14,23 +16,15 @@ ghost use Rattle.code.specs.Code.{codeOf};
 ghost use Rattle.memory.specs.Memory.{memoryOf};
 ghost use Rattle.registers.specs.Registers.{textOf};
 ghost use Rattle.cfi_unwind.specs.Unwind.{frameWords};
-ghost use Rattle.cfi_unwind.specs.declared.Stop.the-variants.{MemoryUnavailable, UnknownRegister};
+ghost use Rattle.stop.specs.declared.Stop.the-variants.{MemoryUnavailable, UnknownRegister};
 ghost use Rattle.digits.specs.Digits.{Stored, hex8};
+ghost use Rattle.digits.specs.Printed.{fitted, headed};
 ghost use Rattle.backtrace_text.specs.Notes.{nameOf, note, noteLine};
 ghost use Rattle.backtrace_text.specs.Backtrace.{maxFrames, marker, entry, page, printedOf, textAfter};
-ghost use Rattle.backtrace_text.specs.Answers.{entriesIn, said, fitted, headed};
-
-// How many bytes the text has, or why there is none.
-pub enum Printed {
-    Text(usize),
-    Refused(Refusal),
-}
+ghost use Rattle.backtrace_text.specs.Answers.{entriesIn, said};
 
 // The most frames a backtrace is allowed to have; the note of that stop names it.
 const MAX_FRAMES: u32 = 100;
-
-// A frame's record: its first word is the pc, its fourth says whether the frame was rebuilt.
-const FRAME_WORDS: usize = 4;
 
 // Puts what marks a frame that was rebuilt.
 fn put_marker(text: &mut [u8], at: usize, recovered: u32) -> usize

@@ -24,7 +24,7 @@ use Rattle.refusal.specs.declared.Refusal.{Refusal}
 use Rattle.refusal.specs.declared.Refusal.the-variants.{BadBook, BadCode, BadDump, NoRoom, FrameLimit}
 use Rattle.cfi_unwind.specs.declared.Answer.the-variants as answer
 use Rattle.cfi_unwind.specs.declared.Ended.{Ended}
-use Rattle.cfi_unwind.specs.Step.{Step, goes, halt, lost, step, stepMade}
+use Rattle.step.specs.Step.{Step, goes, halt, lost, step, stepMade}
 use Rattle.cfi_unwind.specs.Walk.{Walked, Next, on, end, longer, sound, after, lookupOf, regain, finish, advance, walk, walkOf}
 use Rattle.cfi_unwind.specs.Answers.{endedOf}
 use Rattle.cfi_unwind.specs.Unwind.{frameWords, refusalOf, framesBy, answerOf, framesOf}

@@ -5,7 +5,7 @@ use mathlib.Core.Path.{_≡_, refl, sym, ap, ap₂, _∙_}
 use native.Mathlib.Nat.{suc-add}
 use native.Mathlib.Numerals.{add-one}
 use native.Mathlib.Omega.{arith}
-use lib.ListN.{length, getD, take, drop, set, length-append, length-take, length-drop, take-append-drop}
+use lib.ListN.{length, getD, take, drop, set, length-append, length-take, take-append-drop}
 use lib.Seq.{take-at, drop-drop, drop-append-add}
 use Rattle.search.specs.Search.{Link}
 use Rattle.search.specs.Recover.{Frame, rebuilt, inner}
@@ -29,13 +29,13 @@ unfolding recordsOf
 records-length [] = refl
 records-length (f ∷ fs) = let e : length (recordsOf fs) ≡ frameWords * length fs = records-length fs in omega arith
 
-pub records-append : (xs ys : List Frame) → recordsOf (xs ++ ys) ≡ recordsOf xs ++ recordsOf ys
+records-append : (xs ys : List Frame) → recordsOf (xs ++ ys) ≡ recordsOf xs ++ recordsOf ys
 unfolding recordsOf
 records-append [] ys = refl
 records-append (f ∷ fs) ys = ap (λ (l : List ℕ). recordOf f ++ l) (records-append fs ys)
 
 -- a piece written right behind another list
-pub written-behind : (A piece orig : List ℕ) (k : ℕ) → length A ≡ k → written k piece (A ++ drop k orig) ≡ (A ++ piece) ++ drop (k + length piece) orig
+written-behind : (A piece orig : List ℕ) (k : ℕ) → length A ≡ k → written k piece (A ++ drop k orig) ≡ (A ++ piece) ++ drop (k + length piece) orig
 unfolding written
 written-behind A piece orig k e =
     let d : drop (k + length piece) (A ++ drop k orig) ≡ drop (k + length piece) orig = rw (← e) (drop-append-add A _ (length piece)) ∙ drop-drop (length piece) k orig in
@@ -43,7 +43,7 @@ written-behind A piece orig k e =
     ∙ sym (append-assoc A piece (drop (k + length piece) orig))
 
 -- a piece written right behind another piece
-pub written-then : (p q l : List ℕ) (k to : ℕ) → k ≤ length l → to ≡ k + length p → written to q (written k p l) ≡ written k (p ++ q) l
+written-then : (p q l : List ℕ) (k to : ℕ) → k ≤ length l → to ≡ k + length p → written to q (written k p l) ≡ written k (p ++ q) l
 unfolding written
 written-then p q l k to h e =
     let a : length (take k l ++ p) ≡ to = length-append (take k l) p ∙ (let b : length (take k l) ≡ k = simp length-take (omega arith) in omega arith) in
@@ -56,10 +56,6 @@ written-then p q l k to h e =
     ∙ ap (λ (x : List ℕ). take k l ++ x) (sym (append-assoc p q (drop (k + length (p ++ q)) l)))
 
 -- what is written within a list leaves its length
-pub written-length : (p l : List ℕ) (k : ℕ) → k + length p ≤ length l → length (written k p l) ≡ length l
-unfolding written
-written-length p l k h = simp (length-append, length-take, length-drop) (omega arith)
-
 pub inner-length : (cfa : ℕ) (ks : List Link) → length ((inner cfa ks) .0) ≡ length ks
 unfolding inner
 inner-length cfa [] = refl

@@ -21,17 +21,19 @@ use Rattle.search.specs.declared.Outcome.the-variants.{Found, Missing, Spent}
 use Rattle.search.specs.declared.Recovered.{Recovered}
 use Rattle.search.proofs.Links.{links-back}
 use Rattle.search.proofs.Scan.{FitSized, scan-sized}
-use Rattle.cfi_unwind.specs.declared.Stop.{Stop}
-use Rattle.cfi_unwind.specs.declared.Stop.the-variants.{ReturnAddressLost, UnknownRegister, TooManyFrames, Inconsistent, BudgetSpent}
-use Rattle.cfi_unwind.specs.declared.Outcome.the-variants as outcome
-use Rattle.cfi_unwind.specs.declared.Stepped.{Stepped}
+use Rattle.stop.specs.declared.Stop.{Stop}
+use Rattle.stop.specs.declared.Stop.the-variants.{ReturnAddressLost, UnknownRegister, TooManyFrames, Inconsistent, BudgetSpent}
+use Rattle.step.specs.declared.Outcome.the-variants as outcome
+use Rattle.step.specs.declared.Stepped.{Stepped}
 use Rattle.cfi_unwind.specs.declared.Move.{Move}
 use Rattle.cfi_unwind.specs.declared.Move.the-variants as move
 use Rattle.cfi_unwind.specs.declared.Advanced.{Advanced}
 use Rattle.cfi_unwind.specs.declared.Judged.{Judged}
-use Rattle.cfi_unwind.specs.Step.{Step, goes, halt, lost, step, stepMade}
-use Rattle.cfi_unwind.specs.Walk.{Walked, on, longer, ended, sound, after, flag, lookupOf, regain, finish, advance, walk}
-use Rattle.cfi_unwind.specs.Answers.{steppedOf, stoppedAt, rebuiltOf, advancedBy, advancedOf, judgedOf, written, endedOf}
+use Rattle.step.specs.Answers.{steppedOf}
+use Rattle.step.specs.Step.{Step, goes, halt, lost, step, stepMade}
+use Rattle.words.specs.Words.{flag}
+use Rattle.cfi_unwind.specs.Walk.{Walked, on, longer, ended, sound, after, lookupOf, regain, finish, advance, walk}
+use Rattle.cfi_unwind.specs.Answers.{stoppedAt, rebuiltOf, advancedBy, advancedOf, judgedOf, written, endedOf}
 use Rattle.cfi_unwind.specs.Unwind.{frameWords, recordOf, recordsOf, framesBy}
 use Rattle.cfi_unwind.proofs.ListLaws.{records-next, framesIn, inner-length, frames-length}
 
@@ -144,7 +146,7 @@ module _ (room sp pc : ℕ) (r : Advanced) where
     judged-on t u = rw (e, judgedOf, t, u)
 
   -- no more rebuilt frames are reported than there are, and than there is room for
-  pub judged-count : ((judgedOf room sp pc r) .count ≤ room) × ((judgedOf room sp pc r) .count ≤ r .count)
+  judged-count : ((judgedOf room sp pc r) .count ≤ room) × ((judgedOf room sp pc r) .count ≤ r .count)
   judged-count = go (r .go) refl
     where
       go : (m : Move) → r .go ≡ m → ((judgedOf room sp pc r) .count ≤ room) × ((judgedOf room sp pc r) .count ≤ r .count)

@@ -1,64 +1,25 @@
--- What the parts of a step and of a round of the walk answer, whole: what is not said is as it was given, or 0.
+-- What the parts of a round of the walk answer, whole: what is not said is as it was given, or 0.
 use Prim.Native.Nat.{ℕ, suc, _+_}
 use mathlib.Core.Bool.{Bool, true, false}
 use mathlib.Core.List.{List, _++_}
 use mathlib.Core.Option.{Option, none, some}
-use lib.Dec.{leb, eqb}
+use lib.Dec.{leb}
 use lib.ListN.{length, take, drop, replicate}
-use Rattle.words.specs.Words.{plus}
-use Rattle.rows.specs.View.{Rule, View}
+use Rattle.rows.specs.View.{View}
 use Rattle.calls.specs.declared.Call.{Call}
 use Rattle.calls.specs.Listing.{Out, spent, ok}
-use Rattle.registers.specs.Registers.{Regs, valueOf}
 use Rattle.registers.specs.declared.Registers.{Registers}
-use Rattle.registers.specs.declared.Value.{Value}
-use Rattle.registers.specs.declared.Value.the-variants.{Known, Unknown}
 use Rattle.search.specs.Recover.{Fit, regained, scan}
 use Rattle.search.specs.Answers.{linksOf}
-use Rattle.cfi_unwind.specs.declared.Stop.{Stop}
-use Rattle.cfi_unwind.specs.declared.Stop.the-variants.{ReturnAddressLost, MemoryUnavailable, Unsupported, TooManyFrames, Inconsistent, BudgetSpent}
-use Rattle.cfi_unwind.specs.declared.Cfa.{Cfa}
-use Rattle.cfi_unwind.specs.declared.Cfa.the-variants.{At, Nowhere}
-use Rattle.cfi_unwind.specs.declared.Return.{Return}
-use Rattle.cfi_unwind.specs.declared.Return.the-variants as return
-use Rattle.cfi_unwind.specs.declared.Outcome.the-variants.{Caller, Halt, Lost}
-use Rattle.cfi_unwind.specs.declared.Stepped.{Stepped}
+use Rattle.stop.specs.declared.Stop.{Stop}
+use Rattle.stop.specs.declared.Stop.the-variants.{ReturnAddressLost, TooManyFrames, Inconsistent, BudgetSpent}
 use Rattle.cfi_unwind.specs.declared.Move.the-variants as move
 use Rattle.cfi_unwind.specs.declared.Move.the-variants.{On}
 use Rattle.cfi_unwind.specs.declared.Advanced.{Advanced}
 use Rattle.cfi_unwind.specs.declared.Judged.{Judged}
 use Rattle.cfi_unwind.specs.declared.Ended.{Ended}
 use Rattle.cfi_unwind.specs.Walk.{Walked, sound}
-use Rattle.cfi_unwind.specs.Step.{Step, step, valueBy, goes, halt, lost, FrameAddress, at, nowhere}
-
--- the reading that an answer of the registers is of
-abbrev pub knownBy : Value → Option ℕ
-knownBy Unknown = none
-knownBy (Known v) = some v
-
--- the registers of a frame whose pc is no return address
-abbrev pub registersBy : ℕ → Bool → ℕ → List ℕ → Registers
-registersBy pc place mask values = record { pc = pc; «pc_is_return_address» = false; «sp_is_placeholder» = place; mask = mask; values = values }
-
--- what `return_to` answers, by the rule for ra
-unfoldable pub returnOf : (ℕ → Option ℕ) → Bool → ℕ → Regs → ℕ → Option Rule → Return
-returnOf read first pc f cfa none = elim first [ true ↦ return.To (valueOf (f 1)) | false ↦ return.Lost ]
-returnOf read first pc f cfa (some u) =
-    elim (eqb (u .kind) 2) [
-      | true ↦ elim (read (plus cfa (u .operand))) [ none ↦ return.Halt (MemoryUnavailable (plus cfa (u .operand))) | some to ↦ return.To (Known to) ]
-      | false ↦ elim (eqb (u .kind) 6) [ true ↦ return.Halt (Unsupported pc) | false ↦ return.To (valueOf (valueBy read f cfa u)) ]
-    ]
-
--- what `frame_address` answers: not how it was found
-abbrev pub cfaOf : FrameAddress → Cfa
-cfaOf (at fallback cfa) = At cfa
-cfaOf (nowhere stop) = Nowhere stop
-
--- what `step` answers: the caller's registers, or those of the frame beside a stop or a loss
-abbrev pub steppedOf : Registers → Step → Stepped
-steppedOf s (goes b) = record { outcome = Caller; registers = b }
-steppedOf s (halt stop) = record { outcome = Halt stop; registers = s }
-steppedOf s (lost cfa start) = record { outcome = Lost cfa start; registers = s }
+use Rattle.step.specs.Step.{Step, step, goes, halt, lost}
 
 -- a frame after which the walk stops
 abbrev pub stoppedAt : Stop → Registers → ℕ → Advanced

@@ -5,20 +5,20 @@ use mathlib.Core.List.{List, [], _∷_, _++_}
 use mathlib.Core.Option.{Option, none, some}
 use lib.ListN.{length}
 use lib.Dec.{ltb, leb, eqb}
-use Rattle.words.specs.Words.{back}
-use Rattle.rows.specs.View.{View, viewAt}
+use Rattle.words.specs.Words.{plus, back, flag}
+use Rattle.rows.specs.View.{Rule, View, viewAt}
 use Rattle.book.specs.Book.{Book}
 use Rattle.code.specs.Code.{Code}
 use Rattle.memory.specs.Memory.{Memory, readAt}
 use Rattle.calls.specs.declared.Call.{Call}
 use Rattle.calls.specs.Call.{callBefore}
 use Rattle.calls.specs.Listing.{Out, spent, ok, andThen, sizeAt}
-use Rattle.registers.specs.Registers.{reads, newOf, setOf}
+use Rattle.registers.specs.Registers.{reads, newOf, setOf, placed}
 use Rattle.registers.specs.declared.Registers.{Registers}
-use Rattle.search.specs.Recover.{Frame, Fit, inner, scan, placed, regained}
-use Rattle.cfi_unwind.specs.declared.Stop.{Stop}
-use Rattle.cfi_unwind.specs.declared.Stop.the-variants.{ReturnAddressLost, UnknownRegister, TooManyFrames, Inconsistent, BudgetSpent}
-use Rattle.cfi_unwind.specs.Step.{Step, goes, halt, lost, step, stepMade, refillMade}
+use Rattle.search.specs.Recover.{Frame, Fit, inner, scan, regained}
+use Rattle.stop.specs.declared.Stop.{Stop}
+use Rattle.stop.specs.declared.Stop.the-variants.{ReturnAddressLost, UnknownRegister, TooManyFrames, Inconsistent, BudgetSpent}
+use Rattle.step.specs.Step.{Step, goes, halt, lost, step, stepMade}
 
 -- what follows a frame: frames rebuilt, and the registers of the caller above them; or the end. The first says whether a word was done
 -- without
@@ -63,15 +63,23 @@ after room sp pc again (ok (on m fs b) l) =
       | true ↦ longer m fs (elim (sound sp pc b) [ false ↦ ended Inconsistent l | true ↦ again (room - length fs) b l ])
     ]
 
--- a flag as a word
-abbrev pub flag : Bool → ℕ
-flag true = 1
-flag false = 0
-
 -- the address to look up: a return address is looked up one byte before
 abbrev pub lookupOf : Bool → ℕ → ℕ
 lookupOf true pc = back pc 1
 lookupOf false pc = pc
+
+module _ (read : ℕ → Option ℕ) where
+  -- the rebuild makes do: a rule's word is missing, and its register is known all the same
+  unfoldable pub refillMade : ℕ → List Rule → Registers → Bool
+  refillMade cfa [] s = false
+  refillMade cfa (r ∷ rs) s =
+      elim (eqb (r .kind) 2) [
+        | false ↦ refillMade cfa rs s
+        | true ↦ elim (read (plus cfa (r .operand))) [
+          | some v ↦ refillMade cfa rs (setOf s (r .reg) v)
+          | none ↦ elim (reads s (r .reg)) [ some v ↦ true | none ↦ refillMade cfa rs s ]
+        ]
+      ]
 
 module _ (row : ℕ → Option View) (callBefore : ℕ → Call) (sizeAt : ℕ → Option ℕ) (read : ℕ → Option ℕ) where
   -- what the scan from the frame address cfa comes to: the rebuilt frames and the caller above them, or the return address is lost

@@ -1,9 +1,16 @@
 // Text put into lent bytes: a piece of text, and a number in hex or in decimal. Each answers where the next piece goes.
 // What does not fit is cut off, so that one run over no room gives a text's length, and the next one writes it.
+use refusal::Refusal;
 ghost use mathlib.Core.Path.{_≡_};
 ghost use Prim.Native.Nat.{_+_, _^_, _≤_, _<_};
 ghost use lib.ListN.{length};
 ghost use Rattle.digits.specs.Digits.{Stored, digit, hex8, decimal10, firstDigit, decimal};
+
+// What a call that puts a whole text answers: how many bytes it has, or why there is none.
+pub enum Printed {
+    Text(usize),
+    Refused(Refusal),
+}
 
 // Puts the piece from `at` on.
 pub fn put(out: &mut [u8], at: usize, piece: &[u8]) -> usize

@@ -16,7 +16,8 @@ use Rattle.scan.specs.Stack.{wordValue, wordAt, afterWords, wordCount}
 use Rattle.scan.proofs.PairLaws.{resumes-past, resumes-within}
 use Rattle.scan.proofs.WordLaws.{told-none, told-value, told-end}
 use Rattle.esp_idf.specs.declared.EspIdf.{EspIdf}
-use Rattle.esp_idf.specs.Registers.{pairTaken, part, pairsTaken}
+use Rattle.words.specs.Words.{part}
+use Rattle.esp_idf.specs.Registers.{pairTaken, pairsTaken}
 use Rattle.scan.proofs.Told.{none-left, counted}
 
 by-pair {ℓ} : {P : Type ℓ} (x : Pair) → (None ≡ x → P) → ((a e v n : ℕ) → At a e v n ≡ x → P) → P

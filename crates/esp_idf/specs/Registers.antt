@@ -1,16 +1,17 @@
 -- The register lines of an ESP-IDF dump (document 01, "Collectors"): what each pair, and each line, makes known.
-use Prim.Native.Nat.{ℕ, zero, suc, _-_}
+use Prim.Native.Nat.{ℕ, zero, suc}
 use mathlib.Core.Bool.{Bool, true, _&&_, cond}
 use mathlib.Core.List.{List}
 use mathlib.Core.Option.{Option, none, some}
 use lib.Dec.{eqb, ltb}
-use lib.ListN.{length, take, drop}
+use lib.ListN.{length}
+use Rattle.words.specs.Words.{part}
 use Rattle.words.specs.Text.{bytes}
 use Rattle.chars.specs.declared.Class.the-variants.{Space}
 use Rattle.registers.specs.declared.Registers.{Registers}
 use Rattle.registers.specs.declared.Value.{Value}
 use Rattle.registers.specs.declared.Value.the-variants.{Known, Unknown}
-use Rattle.registers.specs.Registers.{newOf, setOf, numberNamed}
+use Rattle.registers.specs.Registers.{newOf, setOf, withPc, numberNamed}
 use Rattle.scan.specs.Places.{past, stands}
 use Rattle.scan.specs.Pairs.{pairPlace, nextPair}
 use Rattle.scan.specs.declared.Pair.the-variants.{At, None}
@@ -46,10 +47,6 @@ registerTaken (some r) value c = knowing c (setOf (registersThen c) r value)
 unfoldable pub pairTaken : List ℕ → ℕ → EspIdf → EspIdf
 pairTaken name value c = cond (isPc name) (at c value) (registerTaken (numberNamed name) value c)
 
--- the bytes from place `from` up to `to`
-abbrev pub part : List ℕ → ℕ → ℕ → List ℕ
-part s from to = take (to - from) (drop from s)
-
 -- the pairs from place p on, one after the other: n at most, and a line has no more pairs than bytes
 unfoldable pub pairsTaken : ℕ → List ℕ → ℕ → EspIdf → EspIdf
 pairsTaken zero s p c = c
@@ -59,20 +56,9 @@ pairsTaken (suc n) s p c =
       | None ↦ c
     ]
 
--- registers with another program counter
-abbrev pub movedTo : ℕ → Registers → Registers
-movedTo pc s =
-    record {
-      pc = pc;
-      «pc_is_return_address» = s .«pc_is_return_address»;
-      «sp_is_placeholder» = s .«sp_is_placeholder»;
-      mask = s .mask;
-      values = s .values;
-    }
-
 -- where this is the program counter: a known one makes the registers known, and is theirs
 abbrev pub pcGiven : Value → EspIdf → EspIdf
-pcGiven (Known pc) c = knowing c (movedTo pc (registersThen c))
+pcGiven (Known pc) c = knowing c (withPc pc (registersThen c))
 pcGiven Unknown c = c
 
 -- a known program counter is the registers'

@@ -1,13 +1,10 @@
--- Copying the registers out of 36 words, and each answer as numbers. Assumes nothing.
-use Prim.Native.Nat.{ℕ, _+_, _<_, _≤_}
+-- Each answer as numbers. Assumes nothing.
+use Prim.Native.Nat.{ℕ}
 use mathlib.Core.Bool.{true, false, not}
 use mathlib.Core.List.{List, [], _∷_}
-use mathlib.Core.Path.{_≡_, refl, sym, _∙_}
-use native.Mathlib.Numerals.{add-one}
-use native.Mathlib.Omega.{arith}
+use mathlib.Core.Path.{_≡_, refl}
 use lib.Dec.{eqb}
-use lib.ListN.{length, getD, set, take, drop, length-drop}
-use lib.Seq.{take-suc, take-suc-set, take-all, getD-drop}
+use lib.ListN.{length, getD}
 use Rattle.book.specs.Book.{Book}
 use Rattle.book.specs.Good.{bookIsGood}
 use Rattle.code.specs.Code.{Code}
@@ -16,13 +13,13 @@ use Rattle.registers.specs.declared.Registers.{Registers}
 use Rattle.refusal.specs.Refusal.{refusalNumber}
 use Rattle.refusal.specs.declared.Refusal.{Refusal}
 use Rattle.cfi_unwind.specs.Unwind.{answerOf, framesOf}
-use Rattle.cfi_unwind.specs.Stop.{stopNumber, stopValue}
-use Rattle.cfi_unwind.specs.declared.Stop.{Stop}
+use Rattle.stop.specs.Stop.{stopNumber, stopValue}
+use Rattle.stop.specs.declared.Stop.{Stop}
 use Rattle.cfi_unwind.specs.declared.Answer.{Answer}
 use Rattle.cfi_unwind.specs.declared.Answer.the-variants.{Refused, Walked}
 use Rattle.backtrace_text.specs.Backtrace.{printedOf, textAfter}
-use Rattle.backtrace_text.specs.declared.Printed.{Printed}
-use Rattle.backtrace_text.specs.declared.Printed.the-variants as printed
+use Rattle.digits.specs.declared.Printed.{Printed}
+use Rattle.digits.specs.declared.Printed.the-variants as printed
 use Rattle.exports.specs.Exports.{registersIn, numberOf, walkedOf, bookNumber, printedNumber, writtenBy}
 
 pub good-number : (b : Book) → bookIsGood b ≡ true → 0 ≡ bookNumber b

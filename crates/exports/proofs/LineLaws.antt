@@ -9,7 +9,7 @@ use borrow.Author.Tests.{eq-eqb, ne-eqb}
 use Rattle.registers.specs.declared.Registers.{Registers}
 use Rattle.registers.specs.declared.Value.{Value}
 use Rattle.registers.specs.declared.Value.the-variants.{Known, Unknown}
-use Rattle.cfi_unwind.specs.Walk.{flag}
+use Rattle.words.specs.Words.{flag}
 use Rattle.refusal.specs.Refusal.{refusalNumber}
 use Rattle.refusal.specs.declared.Refusal.{Refusal}
 use Rattle.esp_backtrace.specs.declared.StackTop.{StackTop}

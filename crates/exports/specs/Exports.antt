@@ -9,9 +9,9 @@ use Rattle.book.specs.Good.{bookIsGood}
 use Rattle.registers.specs.declared.Registers.{Registers}
 use Rattle.refusal.specs.Refusal.{refusalNumber}
 use Rattle.refusal.specs.declared.Refusal.the-variants.{BadBook}
-use Rattle.backtrace_text.specs.declared.Printed.{Printed}
-use Rattle.backtrace_text.specs.declared.Printed.the-variants as printed
-use Rattle.cfi_unwind.specs.Stop.{stopNumber, stopValue}
+use Rattle.digits.specs.declared.Printed.{Printed}
+use Rattle.digits.specs.declared.Printed.the-variants as printed
+use Rattle.stop.specs.Stop.{stopNumber, stopValue}
 use Rattle.cfi_unwind.specs.declared.Answer.{Answer}
 use Rattle.cfi_unwind.specs.declared.Answer.the-variants.{Refused, Walked}
 

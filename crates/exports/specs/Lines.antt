@@ -9,7 +9,7 @@ use Rattle.registers.specs.declared.Value.{Value}
 use Rattle.registers.specs.declared.Value.the-variants.{Known, Unknown}
 use Rattle.refusal.specs.Refusal.{refusalNumber}
 use Rattle.memory.specs.declared.StackMemory.{StackMemory}
-use Rattle.cfi_unwind.specs.Walk.{flag}
+use Rattle.words.specs.Words.{flag}
 use Rattle.esp_backtrace.specs.declared.StackTop.{StackTop}
 use Rattle.esp_backtrace.specs.declared.StackTop.the-variants as top
 use Rattle.esp_idf.specs.declared.State.{State}

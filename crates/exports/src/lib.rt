@@ -1,7 +1,7 @@
 // The entry points for C and Rust: numbers and slices only, and nothing that a caller must ensure.
 // A function returns 0 or document 01's refusal number; what it answers goes into lent arrays, which a refused call leaves unchanged.
-use backtrace_text::Printed;
 use cfi_unwind::Answer;
+use digits::Printed;
 use esp_backtrace::StackTop;
 use esp_idf::EspIdf;
 use esp_idf::State;
@@ -145,8 +145,8 @@ fn register_words(s: Registers) -> [u32; 4]
 {
     [
         s.pc,
-        cfi_unwind::flag(s.pc_is_return_address),
-        cfi_unwind::flag(s.sp_is_placeholder),
+        words::flag(s.pc_is_return_address),
+        words::flag(s.sp_is_placeholder),
         s.mask,
     ]
 }
@@ -217,7 +217,7 @@ fn state_words(c: EspIdf) -> [u32; 4]
 {
     let state = c.state;
     let number = state_number(state);
-    let known = cfi_unwind::flag(c.known);
+    let known = words::flag(c.known);
     let pc = c.pc;
     let Value::Known(value) = pc else {
         return [number, 0, 0, known];

@@ -69,7 +69,7 @@ two-each [] = omega arith
 two-each (a ∷ []) = omega arith
 two-each (a ∷ b ∷ t) = omega (arith, two-each t)
 
-pub code-upto : (line : List ℕ) → 2 * length (codeBytes line) ≤ length line
+code-upto : (line : List ℕ) → 2 * length (codeBytes line) ≤ length line
 unfolding codeBytes
 code-upto line =
     by-bool (eqb (itemOf line .kind) 6)

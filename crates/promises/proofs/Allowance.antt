@@ -20,7 +20,7 @@ abbrev pub Later : {A : Type 0} → ℕ → Out A → Out A → Type 0
 Later d spent p = Unit {0}
 Later d (ok a l) p = p ≡ ok a (l + d)
 
-pub later-then : {A B : Type 0} (d : ℕ) (o p : Out A) (k j : A → ℕ → Out B) → Later d o p → ((a : A) (l : ℕ) → Later d (k a l) (j a (l + d)))
+later-then : {A B : Type 0} (d : ℕ) (o p : Out A) (k j : A → ℕ → Out B) → Later d o p → ((a : A) (l : ℕ) → Later d (k a l) (j a (l + d)))
     → Later d (andThen o k) (andThen p j)
 unfolding andThen
 later-then d spent p k j e h = tt

@@ -7,12 +7,11 @@ use Rattle.code.specs.Code.{Code}
 use Rattle.memory.specs.Memory.{Memory}
 use Rattle.registers.specs.declared.Registers.{Registers}
 use Rattle.cfi_unwind.specs.declared.Answer.{Answer}
-use Rattle.backtrace_text.specs.declared.Printed.{Printed as TextPrinted}
+use Rattle.digits.specs.declared.Printed.{Printed}
 use Rattle.esp_backtrace.specs.declared.StackTop.{StackTop}
 use Rattle.esp_idf.specs.declared.EspIdf.{EspIdf}
 use Rattle.stack_dump.specs.Lines.{Lent}
 use Rattle.stack_dump.specs.declared.Fed.{Fed}
-use Rattle.sheet_walk.specs.declared.Printed.{Printed as SheetPrinted}
 use Rattle.promises.specs.Determined.{UnwindMeets, FeedMeets, PrintMeets, SheetMeets}
 
 -- what equals one definition is equal, for the answer and for what was lent
@@ -30,10 +29,10 @@ pub feed-determined :
 feed-determined line top lent c x y u v p q = both p q
 
 pub print-determined :
-    (b : Book) (c : Code) (m : Memory) (s : Registers) (allowance : ℕ) (bytes : List ℕ) (x y : TextPrinted) (u v : List ℕ)
+    (b : Book) (c : Code) (m : Memory) (s : Registers) (allowance : ℕ) (bytes : List ℕ) (x y : Printed) (u v : List ℕ)
     → PrintMeets b c m s allowance bytes x u → PrintMeets b c m s allowance bytes y v → (x ≡ y) × (u ≡ v)
 print-determined b c m s allowance bytes x y u v p q = both p q
 
 pub sheet-determined :
-    (s bytes : List ℕ) (x y : SheetPrinted) (u v : List ℕ) → SheetMeets s bytes x u → SheetMeets s bytes y v → (x ≡ y) × (u ≡ v)
+    (s bytes : List ℕ) (x y : Printed) (u v : List ℕ) → SheetMeets s bytes x u → SheetMeets s bytes y v → (x ≡ y) × (u ≡ v)
 sheet-determined s bytes x y u v p q = both p q

@@ -18,7 +18,7 @@ use Rattle.registers.specs.Registers.{reads}
 use Rattle.registers.specs.declared.Registers.{Registers}
 use Rattle.search.specs.Recover.{scan}
 use Rattle.search.proofs.Left.{Within, less, then-within, scan-within}
-use Rattle.cfi_unwind.specs.Step.{Step, goes, halt, lost, step, stepMade}
+use Rattle.step.specs.Step.{Step, goes, halt, lost, step, stepMade}
 use Rattle.cfi_unwind.specs.Walk.{Next, on, end as ends, Walked, longer, sound, after, lookupOf, finish, advance, walk}
 use Rattle.promises.specs.Demand.{Start, Given, walked, used}
 

@@ -13,8 +13,8 @@ use Rattle.calls.specs.Listing.{andThen, sizeAt, noted, straight, calls}
 use Rattle.registers.specs.Registers.{readBy, setOf, clearOf}
 use Rattle.search.specs.Search.{linkAt, follow, throughCalls, chain}
 use Rattle.search.specs.Recover.{inner, ruleFor, meets, meetsIf, tryWord, scan, refill}
-use Rattle.cfi_unwind.specs.Step.{keep, keepers, frameAddress, valueBy, byRules, onTo, above, noRow, step, rulesMade, stepMade, refillMade}
-use Rattle.cfi_unwind.specs.Walk.{longer, above?, after, regain, finish, advance, walk}
+use Rattle.step.specs.Step.{keep, keepers, frameAddress, valueBy, byRules, onTo, above, noRow, step, rulesMade, stepMade}
+use Rattle.cfi_unwind.specs.Walk.{longer, above?, after, regain, finish, advance, walk, refillMade}
 use Rattle.promises.specs.Sheet.{code, book, withoutSp, registers, memory, shorter}
 use Rattle.promises.specs.Edges.{edges, got}
 

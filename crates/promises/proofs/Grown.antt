@@ -12,11 +12,12 @@ use borrow.Author.Tests.{eqb-true, ne-eqb}
 use Rattle.words.specs.Words.{plus}
 use Rattle.words.proofs.Cases.{by-bool, by-option, no-some}
 use Rattle.rows.specs.View.{Rule}
-use Rattle.registers.specs.Registers.{Regs, blank, settable, put, kept, reads, newOf, setOf, clearOf}
+use Rattle.registers.specs.Registers.{Regs, blank, settable, put, kept, reads, newOf, setOf, clearOf, placed}
 use Rattle.registers.specs.declared.Registers.{Registers}
 use Rattle.registers.proofs.Laws.{put-hit, put-miss, reads-new, reads-set, reads-clear, Remade, set-remade, clear-remade}
-use Rattle.search.specs.Recover.{placed, refill}
-use Rattle.cfi_unwind.specs.Step.{keep, keepers, ruled, valueBy, byRules, refillMade}
+use Rattle.search.specs.Recover.{refill}
+use Rattle.cfi_unwind.specs.Walk.{refillMade}
+use Rattle.step.specs.Step.{keep, keepers, ruled, valueBy, byRules}
 
 -- what the one reads the other reads
 abbrev pub Has : Option ℕ → Option ℕ → Type 0
@@ -88,7 +89,7 @@ ruled-remade : (q : ℕ) (o : Option ℕ) (b : Registers) → Remade b (ruled q 
 ruled-remade q none b = clear-remade b q
 ruled-remade q (some v) b = set-remade b q v
 
-pub ruled-both : (a b : Registers) (q : ℕ) (o p : Option ℕ) → Making a b → Has o p → Making (ruled q o a) (ruled q p b)
+ruled-both : (a b : Registers) (q : ℕ) (o p : Option ℕ) → Making a b → Has o p → Making (ruled q o a) (ruled q p b)
 ruled-both a b q o p m h =
     remade a b (ruled q o a) (ruled q p b) m (ruled-remade q o a) (ruled-remade q p b)
     (rw (reads-ruled q o a (m .size-a), reads-ruled q p b (m .size-b)) (put-sub q o p (reads a) (reads b) h (m .grown .known)))

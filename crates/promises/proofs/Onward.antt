@@ -17,10 +17,11 @@ use Rattle.calls.specs.Listing.{Out, spent, ok}
 use Rattle.registers.specs.Registers.{reads}
 use Rattle.registers.specs.declared.Registers.{Registers}
 use Rattle.search.specs.Recover.{Frame}
-use Rattle.cfi_unwind.specs.declared.Stop.{Stop}
-use Rattle.cfi_unwind.specs.declared.Stop.the-variants.{UnknownRegister, TooManyFrames, Inconsistent, BudgetSpent}
-use Rattle.cfi_unwind.specs.Stop.{stopNumber}
-use Rattle.cfi_unwind.specs.Walk.{Next, on, end, Walked, longer, ended, sound, after, flag, lookupOf, advance, walk}
+use Rattle.stop.specs.declared.Stop.{Stop}
+use Rattle.stop.specs.declared.Stop.the-variants.{UnknownRegister, TooManyFrames, Inconsistent, BudgetSpent}
+use Rattle.stop.specs.Stop.{stopNumber}
+use Rattle.words.specs.Words.{flag}
+use Rattle.cfi_unwind.specs.Walk.{Next, on, end, Walked, longer, ended, sound, after, lookupOf, advance, walk}
 use Rattle.promises.specs.Demand.{Opens}
 
 -- the second walk is the first, with d more of the allowance left

@@ -9,12 +9,12 @@ use Rattle.words.proofs.Laws.{or-left, or-right}
 use Rattle.rows.specs.View.{View}
 use Rattle.calls.specs.declared.Call.{Call}
 use Rattle.calls.specs.Listing.{Out, spent, ok, andThen}
-use Rattle.registers.specs.Registers.{reads, newOf, setOf}
+use Rattle.registers.specs.Registers.{reads, newOf, setOf, placed}
 use Rattle.registers.specs.declared.Registers.{Registers}
-use Rattle.search.specs.Recover.{Fit, scan, placed, regained}
-use Rattle.cfi_unwind.specs.declared.Stop.the-variants.{ReturnAddressLost}
-use Rattle.cfi_unwind.specs.Step.{Step, goes, halt, lost, step, refillMade}
-use Rattle.cfi_unwind.specs.Walk.{Next, end, regain, finish, advance}
+use Rattle.search.specs.Recover.{Fit, scan, regained}
+use Rattle.stop.specs.declared.Stop.the-variants.{ReturnAddressLost}
+use Rattle.step.specs.Step.{Step, goes, halt, lost, step}
+use Rattle.cfi_unwind.specs.Walk.{Next, end, regain, finish, advance, refillMade}
 use Rattle.promises.proofs.Grown.{Sub, Grown, grown-same, new-both, set-both, refill-both}
 use Rattle.promises.proofs.Scans.{Enough, Finds, scan-finds}
 use Rattle.promises.proofs.Steps.{Wide, step-wide}

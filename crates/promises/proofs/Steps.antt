@@ -11,11 +11,11 @@ use Rattle.words.proofs.Laws.{or-left}
 use Rattle.words.specs.Words.{plus}
 use Rattle.words.proofs.Cases.{by-bool, by-option, no-some}
 use Rattle.rows.specs.View.{Rule, View}
-use Rattle.registers.specs.Registers.{reads, setOf, clearOf}
+use Rattle.registers.specs.Registers.{reads, setOf, clearOf, withPc}
 use Rattle.registers.specs.declared.Registers.{Registers}
 use Rattle.search.specs.Recover.{ruleFor}
-use Rattle.cfi_unwind.specs.declared.Stop.{Stop}
-use Rattle.cfi_unwind.specs.Step.{Step, goes, halt, lost, withPc, keepers, baseOf, FrameAddress, at, nowhere, frameAddress, callerOf, onTo, above, noRow, step, stepMade}
+use Rattle.stop.specs.declared.Stop.{Stop}
+use Rattle.step.specs.Step.{Step, goes, halt, lost, keepers, baseOf, FrameAddress, at, nowhere, frameAddress, callerOf, onTo, above, noRow, step, stepMade}
 use Rattle.promises.proofs.Grown.{Has, Sub, Grown, Making, set-both, clear-both, keepers-both, value-has, rules-both}
 
 -- the second step comes to the same, and to no fewer registers; a stop may be another

@@ -12,8 +12,8 @@ use Rattle.rows.specs.View.{Rule, View}
 use Rattle.registers.specs.Registers.{reads}
 use Rattle.registers.specs.declared.Registers.{Registers}
 use Rattle.search.specs.Recover.{ruleFor}
-use Rattle.cfi_unwind.specs.declared.Stop.{Stop}
-use Rattle.cfi_unwind.specs.Step.{Step, goes, halt, lost, FrameAddress, at, nowhere, frameAddress, onTo, above, stepFrom, noRow, step}
+use Rattle.stop.specs.declared.Stop.{Stop}
+use Rattle.step.specs.Step.{Step, goes, halt, lost, FrameAddress, at, nowhere, frameAddress, onTo, above, stepFrom, noRow, step}
 use Rattle.promises.specs.Demand.{thirdCase}
 
 -- a step that loses nothing

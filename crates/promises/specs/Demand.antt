@@ -12,8 +12,8 @@ use Rattle.rows.specs.View.{Rule, View}
 use Rattle.registers.specs.Registers.{reads}
 use Rattle.registers.specs.declared.Registers.{Registers}
 use Rattle.search.specs.Recover.{Frame, ruleFor}
-use Rattle.cfi_unwind.specs.Stop.{stopNumber}
-use Rattle.cfi_unwind.specs.Step.{Step, goes, halt, lost, lacks}
+use Rattle.stop.specs.Stop.{stopNumber}
+use Rattle.step.specs.Step.{Step, goes, halt, lost, lacks}
 use Rattle.cfi_unwind.specs.Walk.{Walked, walkOf}
 
 -- what each walk is given: memory, a frame limit and a search allowance

@@ -10,13 +10,13 @@ use Rattle.registers.specs.declared.Registers.{Registers}
 use Rattle.cfi_unwind.specs.Unwind.{answerOf, framesOf}
 use Rattle.cfi_unwind.specs.declared.Answer.{Answer}
 use Rattle.backtrace_text.specs.Backtrace as text
-use Rattle.backtrace_text.specs.declared.Printed.{Printed as TextPrinted}
+use Rattle.digits.specs.Printed.{fitted, headed}
+use Rattle.digits.specs.declared.Printed.{Printed}
 use Rattle.esp_backtrace.specs.declared.StackTop.{StackTop}
 use Rattle.esp_idf.specs.declared.EspIdf.{EspIdf}
 use Rattle.stack_dump.specs.Lines.{Lent, fed, lentAfter}
 use Rattle.stack_dump.specs.declared.Fed.{Fed}
-use Rattle.sheet_walk.specs.SheetText as sheet
-use Rattle.sheet_walk.specs.declared.Printed.{Printed as SheetPrinted}
+use Rattle.sheet_walk.specs.SheetText.{sheetText}
 
 -- a walk: its answer, and the frame list
 abbrev pub UnwindMeets : Book → Code → Memory → Registers → ℕ → ℕ → List ℕ → Answer → List ℕ → Type 0
@@ -28,11 +28,11 @@ abbrev pub FeedMeets : List ℕ → StackTop → Lent → EspIdf → Fed → Len
 FeedMeets line top lent c answer after = (answer ≡ fed line top lent c) × (after ≡ lentAfter line top lent c)
 
 -- a text: its length, and the bytes
-abbrev pub PrintMeets : Book → Code → Memory → Registers → ℕ → List ℕ → TextPrinted → List ℕ → Type 0
+abbrev pub PrintMeets : Book → Code → Memory → Registers → ℕ → List ℕ → Printed → List ℕ → Type 0
 PrintMeets b c m s allowance bytes answer after =
     (answer ≡ text.printedOf b c m s allowance (length bytes)) × (after ≡ text.textAfter b c m s allowance bytes)
 
 -- a sheet: the length of its answer's text, and the bytes
-abbrev pub SheetMeets : List ℕ → List ℕ → SheetPrinted → List ℕ → Type 0
+abbrev pub SheetMeets : List ℕ → List ℕ → Printed → List ℕ → Type 0
 SheetMeets s bytes answer after =
-    (answer ≡ sheet.printedOf (sheet.sheetText s) (length bytes)) × (after ≡ sheet.textAfter (sheet.sheetText s) bytes)
+    (answer ≡ fitted (sheetText s) (length bytes)) × (after ≡ headed (sheetText s) bytes)

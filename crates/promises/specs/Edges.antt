@@ -11,7 +11,7 @@ use Rattle.calls.specs.declared.Call.{Call}
 use Rattle.calls.specs.declared.Call.the-variants.{Direct, None}
 use Rattle.registers.specs.declared.Registers.{Registers}
 use Rattle.search.specs.Recover.{Frame}
-use Rattle.cfi_unwind.specs.Stop.{stopNumber, stopValue}
+use Rattle.stop.specs.Stop.{stopNumber, stopValue}
 use Rattle.cfi_unwind.specs.Walk.{Walked, walkOf}
 use Rattle.promises.specs.Sheet.{code, book, withoutSp, registers, memory, shorter}
 

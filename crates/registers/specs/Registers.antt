@@ -54,6 +54,14 @@ valueOf (some v) = Known v
 abbrev pub remade : Registers → ℕ → List ℕ → Registers
 remade s m vs = record { pc = s .pc; «pc_is_return_address» = s .«pc_is_return_address»; «sp_is_placeholder» = s .«sp_is_placeholder»; mask = m; values = vs }
 
+-- the registers with another program counter
+abbrev pub withPc : ℕ → Registers → Registers
+withPc pc s = record { pc = pc; «pc_is_return_address» = s .«pc_is_return_address»; «sp_is_placeholder» = s .«sp_is_placeholder»; mask = s .mask; values = s .values }
+
+-- the registers, sp being a placeholder or not
+abbrev pub placed : Bool → Registers → Registers
+placed place s = record { pc = s .pc; «pc_is_return_address» = s .«pc_is_return_address»; «sp_is_placeholder» = place; mask = s .mask; values = s .values }
+
 -- what `new` answers: only the program counter is known
 abbrev pub newOf : ℕ → Registers
 newOf pc = record { pc = pc; «pc_is_return_address» = false; «sp_is_placeholder» = false; mask = 0; values = replicate 32 0 }

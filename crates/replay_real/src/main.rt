@@ -1,6 +1,6 @@
 // Walks dumps of a real firmware and prints the pc and sp of each frame. data/ has the case sheets, which `args` names; the gate compares what is
 // printed with what an emulator's instruction trace said of the same frames.
-use sheet_walk::Printed;
+use digits::Printed;
 
 // Prints the pc and sp of each frame. A frame's line has 28 bytes: `frame=`, pc, sp, two flags. Behind the last one stands the line of the stop, which
 // is no frame's, so the text may go on behind the answer.
@@ -22,7 +22,7 @@ fn print_frames(text: &[u8]) {
 // Walks a sheet. The longest text, of 1,024 frames, has under 30,000 bytes.
 fn walk(sheet: &[u8]) {
     let mut text = [0u8; 32768];
-    let Printed::Length(_) = sheet_walk::walk_sheet(sheet, &mut text) else {
+    let Printed::Text(_) = sheet_walk::walk_sheet(sheet, &mut text) else {
         io::write_all(1, b"no room\n");
         return;
     };

@@ -1,7 +1,7 @@
 // Replays walks whose answers are known: document 01's edges of the sheet, then what the Rust answered, as `oracle/compare replay` writes it. Standard
 // input is case after case: a line `case=SHEET,ANSWER` with two lengths of five digits, a case sheet, and the answer, which may leave out the line `used=`.
 // Says which cases differ, and how many there were.
-use sheet_walk::Printed;
+use digits::Printed;
 ghost use Prim.Native.Nat.{_+_, _≤_, _<_};
 ghost use lib.ListN.{length};
 
@@ -65,7 +65,7 @@ fn front_agrees(text: &[u8], n: usize, answer: &[u8]) -> bool {
 // Whether a sheet is answered so. The longest text, of 1,024 frames, has under 30,000 bytes.
 fn is_answered(sheet: &[u8], answer: &[u8]) -> bool {
     let mut text = [0u8; 65536];
-    let Printed::Length(n) = sheet_walk::walk_sheet(sheet, &mut text) else {
+    let Printed::Text(n) = sheet_walk::walk_sheet(sheet, &mut text) else {
         return false;
     };
     front_agrees(&text, n, answer)

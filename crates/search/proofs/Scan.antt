@@ -16,10 +16,10 @@ use Rattle.rows.specs.View.{Rule, View, ruleAt, ruleList}
 use Rattle.calls.specs.declared.Call.{Call}
 use Rattle.calls.specs.declared.Call.the-variants.{None, Indirect, Direct}
 use Rattle.calls.specs.Listing.{Out, spent, ok, andThen}
-use Rattle.registers.specs.Registers.{newOf, setOf}
+use Rattle.registers.specs.Registers.{newOf, setOf, placed}
 use Rattle.registers.specs.declared.Registers.{Registers}
 use Rattle.search.specs.Search.{Link, chain}
-use Rattle.search.specs.Recover.{Fit, inner, ruleFor, placed, meets, meetsIf, tryWord, scan, refill}
+use Rattle.search.specs.Recover.{Fit, inner, ruleFor, meets, meetsIf, tryWord, scan, refill}
 use Rattle.search.specs.Answers.{linksIn, searchedOf, foundIn, foundBy, noCaller, recoveredOf, ruleMade, ruleOf, Whole}
 use Rattle.search.specs.declared.RuleAt.{RuleAt}
 use Rattle.search.specs.declared.RuleAt.the-variants as rule

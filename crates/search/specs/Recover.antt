@@ -9,7 +9,7 @@ use Rattle.rows.specs.View.{Rule, View}
 use Rattle.calls.specs.declared.Call.{Call}
 use Rattle.calls.specs.declared.Call.the-variants.{None, Indirect, Direct}
 use Rattle.calls.specs.Listing.{Out, ok, andThen}
-use Rattle.registers.specs.Registers.{newOf, setOf}
+use Rattle.registers.specs.Registers.{newOf, setOf, placed}
 use Rattle.registers.specs.declared.Registers.{Registers}
 use Rattle.search.specs.Search.{Link, chain}
 
@@ -32,10 +32,6 @@ inner cfa (k ∷ ks) = let p : List Frame × ℕ = inner cfa ks in (p .0 ++ (reb
 unfoldable pub ruleFor : ℕ → List Rule → Option Rule
 ruleFor q [] = none
 ruleFor q (r ∷ rs) = elim (eqb (r .reg) q) [ true ↦ some r | false ↦ ruleFor q rs ]
-
--- the registers, sp being a placeholder or not
-abbrev pub placed : Bool → Registers → Registers
-placed place s = record { pc = s .pc; «pc_is_return_address» = s .«pc_is_return_address»; «sp_is_placeholder» = place; mask = s .mask; values = s .values }
 
 -- a word that fits as a saved return address: the word, the chain of the frames below it, the frame address above them, the rules there
 pub record Fit : Type 0 where

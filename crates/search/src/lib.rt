@@ -19,9 +19,9 @@ ghost use Rattle.code.specs.Code.{codeOf, codeIsGood};
 ghost use Rattle.calls.specs.Call.{callBefore};
 ghost use Rattle.calls.specs.Listing.{sizeAt, ok, andThen};
 ghost use Rattle.memory.specs.Memory.{memoryOf, memoryIsGood, readAt};
-ghost use Rattle.registers.specs.Registers.{newOf, setOf};
+ghost use Rattle.registers.specs.Registers.{newOf, setOf, placed};
 ghost use Rattle.search.specs.Search.{linkAt, chain};
-ghost use Rattle.search.specs.Recover.{ruleFor, inner, placed, refill as refilled, meetsIf, scan};
+ghost use Rattle.search.specs.Recover.{ruleFor, inner, refill as refilled, meetsIf, scan};
 ghost use Rattle.search.specs.Answers.{ruleMade, ruleOf, linkOf, followCall, onwardOf, settledBy, noChain, withLink, searchedOf, linksIn, foundIn, Whole, noCaller, recoveredOf};
 
 // How a search ended.

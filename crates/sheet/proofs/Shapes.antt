@@ -49,7 +49,7 @@ module _ (entry line v : List ℕ) (n i k : ℕ) where
         rw (text-more entry k h, some, matchFrom, ← e, drop-drop (f .len) i line, add-one k)
 
 -- the table's texts are the shapes, in their order
-pub entry-is : (k : ℕ) → textOf (getD shapeTable k []) ≡ bytes (getD shapes k "")
+entry-is : (k : ℕ) → textOf (getD shapeTable k []) ≡ bytes (getD shapes k "")
 unfolding shapeTable shapes textOf
 entry-is k = sym (List·getD-map textOf shapeTable k []) ∙ ap (λ (l : List (List ℕ)). getD l k []) texts ∙ List·getD-map bytes shapes k ""
   where

@@ -86,7 +86,7 @@ module _ (sheet : List ℕ) (at e : ℕ) (w : e ≡ at + toLine (drop at sheet))
       let z : e - at ≡ toLine (drop at sheet) = omega arith in
       rw (z, ← behind) (lines-on [] (drop at sheet) inside)
 
-  pub next-rest : restOf (drop at sheet) ≡ restOf (drop (e + 1) sheet)
+  next-rest : restOf (drop at sheet) ≡ restOf (drop (e + 1) sheet)
   unfolding restOf
   next-rest = rw (← behind) (rest-on [] (drop at sheet) inside)
 
@@ -95,7 +95,7 @@ pub no-line : (sheet : List ℕ) (at : ℕ) → length sheet ≤ at + toLine (dr
 unfolding linesOf
 no-line sheet at h = lines-out [] (drop at sheet) (omega (arith, length-drop at sheet))
 
-pub no-rest : (sheet : List ℕ) (at : ℕ) → length sheet ≤ at + toLine (drop at sheet) → restOf (drop at sheet) ≡ drop at sheet
+no-rest : (sheet : List ℕ) (at : ℕ) → length sheet ≤ at + toLine (drop at sheet) → restOf (drop at sheet) ≡ drop at sheet
 unfolding restOf
 no-rest sheet at h = rest-out [] (drop at sheet) (omega (arith, length-drop at sheet))
 

@@ -25,7 +25,7 @@ module _ (sheet frames : List ℕ) (r : Loaded) (e : r ≡ loadedOf sheet) where
   unfolding loadedOf
   state-is = ap (λ (x : Loaded). x .state) e
 
-  pub bytes-are : r .bytes ≡ length (bytesOf sheet)
+  bytes-are : r .bytes ≡ length (bytesOf sheet)
   unfolding loadedOf
   bytes-are = ap (λ (x : Loaded). x .bytes) e
 

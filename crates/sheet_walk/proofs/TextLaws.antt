@@ -1,21 +1,15 @@
--- The frames of a list one after the other, the parts of a page, and the text that is measured first and then put. Assumes nothing.
+-- The frames of a list one after the other, and the parts of a page. Assumes nothing.
 use Prim.Native.Nat.{ℕ, suc, _+_, _-_, _<_, _≤_}
 use mathlib.Core.List.{List, [], _++_}
 use mathlib.Core.Path.{_≡_}
 use native.Mathlib.Nat.{add-zero}
 use native.Mathlib.Omega.{arith}
-use lib.ListN.{length, getD, drop}
+use lib.ListN.{getD, drop}
 use lib.Seq.{getD-drop, drop-drop}
-use borrow.Author.Tests.{lt-ltb, le-ltb}
-use Rattle.digits.specs.Digits.{Stored}
-use Rattle.digits.proofs.Pieces.{stored-whole}
 use Rattle.sheet.specs.declared.State.{State}
 use Rattle.sheet.proofs.Capped.{Capped}
 use Rattle.page.specs.Page.{nextOf}
-use Rattle.refusal.specs.declared.Refusal.the-variants.{NoRoom}
-use Rattle.sheet_walk.specs.declared.Printed.the-variants.{Length, Refused}
 use Rattle.sheet_walk.specs.Lines.{frameLine, frameLines}
-use Rattle.sheet_walk.specs.SheetText.{printedOf, textAfter}
 
 -- one frame more, and none
 pub frames-more :
@@ -60,26 +54,3 @@ module _ (s : State) (h : Capped s) where
   pub words-in : (14568 ≤ nextOf s 12) × (nextOf s 12 ≤ 30952)
   unfolding nextOf
   words-in = (omega arith, omega (arith, h 12))
-
--- the text, whose length was found first
-module _ (out : List ℕ) {l m t : List ℕ} {r : ℕ} (s : Stored l 0 t r m) where
-  whole : r ≡ length t
-  whole = omega (arith, s .end)
-
-  module _ (h : length out < r) where
-    pub no-room : Refused NoRoom ≡ printedOf t (length out)
-    unfolding printedOf
-    no-room = rw (lt-ltb (length out) (length t) (rw whole at h))
-
-    pub text-kept : out ≡ textAfter t out
-    unfolding textAfter
-    text-kept = rw (lt-ltb (length out) (length t) (rw whole at h))
-
-  module _ (h : r ≤ length out) where
-    pub has-room : Length r ≡ printedOf t (length out)
-    unfolding printedOf
-    has-room = rw (le-ltb (length out) (length t) (rw whole at h), whole)
-
-    pub text-put : {n : List ℕ} {k : ℕ} → Stored out 0 t k n → n ≡ textAfter t out
-    unfolding textAfter
-    text-put p = rw (le-ltb (length out) (length t) (rw whole at h)) (stored-whole p (rw whole at h))

@@ -5,10 +5,10 @@ use mathlib.Core.List.{List, [], _++_}
 use lib.ListN.{getD, drop}
 use Rattle.words.specs.Text.{bytes}
 use Rattle.digits.specs.Digits.{hex8, decimal}
-use Rattle.cfi_unwind.specs.declared.Stop.{Stop}
+use Rattle.stop.specs.declared.Stop.{Stop}
 use Rattle.cfi_unwind.specs.declared.Answer.{Answer}
 use Rattle.cfi_unwind.specs.declared.Answer.the-variants.{Refused, Walked}
-use Rattle.cfi_unwind.specs.Stop.{stopNumber, stopValue}
+use Rattle.stop.specs.Stop.{stopNumber, stopValue}
 use Rattle.refusal.specs.Refusal.{refusalNumber}
 use Rattle.sheet_walk.specs.declared.Outcome.{Outcome}
 

@@ -1,14 +1,14 @@
 -- The walk of a case sheet: from the sheet's bytes to the text of the answer.
-use Prim.Native.Nat.{ℕ, _-_}
-use mathlib.Core.Bool.{cond}
-use mathlib.Core.List.{List, _++_}
-use lib.Dec.{eqb, ltb}
-use lib.ListN.{length, getD, take, drop, replicate}
+use Prim.Native.Nat.{ℕ}
+use mathlib.Core.List.{List}
+use lib.Dec.{eqb}
+use lib.ListN.{length, getD, replicate}
+use Rattle.words.specs.Words.{part}
 use Rattle.book.specs.Book.{Book, bookOf}
 use Rattle.code.specs.Code.{Code, codeOf}
 use Rattle.memory.specs.Memory.{Memory, memoryOf}
 use Rattle.registers.specs.declared.Registers.{Registers}
-use Rattle.refusal.specs.declared.Refusal.the-variants.{BadSheet, NoRoom}
+use Rattle.refusal.specs.declared.Refusal.the-variants.{BadSheet}
 use Rattle.cfi_unwind.specs.declared.Answer.{Answer}
 use Rattle.cfi_unwind.specs.declared.Answer.the-variants as answer
 use Rattle.cfi_unwind.specs.Unwind.{answerOf, framesOf}
@@ -18,13 +18,7 @@ use Rattle.sheet.specs.declared.Verdict.the-variants.{Good, Bad}
 use Rattle.sheet.specs.Sheet.{readOf}
 use Rattle.page.specs.Page.{sectionsAt, tablesAt, functionsAt, rowsAt, rulesAt, segmentsAt, wordsAt, pageEnd, nextOf, bytesOf, pageOf}
 use Rattle.sheet_walk.specs.declared.Outcome.{Outcome}
-use Rattle.sheet_walk.specs.declared.Printed.{Printed}
-use Rattle.sheet_walk.specs.declared.Printed.the-variants as printed
 use Rattle.sheet_walk.specs.Lines.{outcomeText}
-
--- the words of the page from a place up to, not including, another
-abbrev pub part : List ℕ → ℕ → ℕ → List ℕ
-part page from to = take (to - from) (drop from page)
 
 -- the book that is laid out on a page: a part ends where the next record of its kind would go
 abbrev pub bookIn : State → List ℕ → Book
@@ -93,11 +87,3 @@ noFrames = replicate 4096 0
 -- the text of a sheet's answer
 unfoldable pub sheetText : List ℕ → List ℕ
 sheetText sheet = outcomeText (outcomeOf sheet noFrames) (listOf sheet noFrames)
-
--- its length, or refusal 7 where it does not fit
-unfoldable pub printedOf : List ℕ → ℕ → Printed
-printedOf text room = cond (ltb room (length text)) (printed.Refused NoRoom) (printed.Length (length text))
-
--- the text at the head of the lent bytes, where it fits; else they keep what stood there
-unfoldable pub textAfter : List ℕ → List ℕ → List ℕ
-textAfter text out = cond (ltb (length out) (length text)) out (text ++ drop (length text) out)

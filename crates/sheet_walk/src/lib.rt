@@ -1,29 +1,25 @@
 // A case sheet walked: from the sheet's bytes to the text of the walk's answer, a refusal's included.
 use cfi_unwind::Answer;
-use cfi_unwind::Stop;
+use digits::Printed;
 use refusal::Refusal;
 use sheet::State;
 use sheet::Verdict;
+use stop::Stop;
 ghost use mathlib.Core.Path.{_≡_};
 ghost use mathlib.Core.List.{_++_};
 ghost use Prim.Native.Nat.{ℕ, _+_, _*_, _≤_, _<_};
 ghost use lib.ListN.{length, getD};
 ghost use Rattle.refusal.specs.Refusal.{refusalNumber};
 ghost use Rattle.digits.specs.Digits.{Stored, hex8, decimal};
+ghost use Rattle.digits.specs.Printed.{fitted, headed};
 ghost use Rattle.sheet.specs.Sheet.{count, caps};
 ghost use Rattle.sheet_walk.specs.Lines.{frameLine, frameLines, stopLine, usedLine, refusedLine, outcomeText, framesIn};
-ghost use Rattle.sheet_walk.specs.SheetText.{walkAnswer, walkFrames, outcomeOf, listOf, sheetText, printedOf, textAfter};
+ghost use Rattle.sheet_walk.specs.SheetText.{walkAnswer, walkFrames, outcomeOf, listOf, sheetText};
 
 // What a sheet comes to: the walk's answer, and the first bad line of a sheet that is refused for it.
 pub struct Outcome {
     pub answer: Answer,
     pub line: u32,
-}
-
-// How long the text is that was put, or why none was.
-pub enum Printed {
-    Length(usize),
-    Refused(Refusal),
 }
 
 // Puts a text, and a number in hex behind it.
@@ -178,7 +174,7 @@ fn outcome_of(sheet: &[u8], frames: &mut [u32]) -> Outcome
 
 // Reads a sheet, walks it, and puts the text of the answer at the head of `text`; a text that does not fit changes nothing.
 pub fn walk_sheet(sheet: &[u8], text: &mut [u8]) -> Printed
-    ensures { λ r. ⌜ (r ≡ printedOf (sheetText (now (sheet .entry))) (length (now (text .entry)))) × (now (text .exit) ≡ textAfter (sheetText (now (sheet .entry))) (now (text .entry))) ⌝ }
+    ensures { λ r. ⌜ (r ≡ fitted (sheetText (now (sheet .entry))) (length (now (text .entry)))) × (now (text .exit) ≡ headed (sheetText (now (sheet .entry))) (now (text .entry))) ⌝ }
 {
     let mut frames = [0u32; 4096];
     let outcome = outcome_of(sheet, &mut frames);
@@ -188,5 +184,5 @@ pub fn walk_sheet(sheet: &[u8], text: &mut [u8]) -> Printed
         return Printed::Refused(Refusal::NoRoom);
     }
     put_outcome(text, &frames, outcome);
-    Printed::Length(length)
+    Printed::Text(length)
 }

@@ -23,7 +23,7 @@ unfolding sum
 sum-none f = refl
 
 -- a part of a sum is at most the sum
-pub sum-part : (f : ℕ → ℕ) (k n : ℕ) → k ≤ n → sum k f ≤ sum n f
+sum-part : (f : ℕ → ℕ) (k n : ℕ) → k ≤ n → sum k f ≤ sum n f
 unfolding sum
 sum-part f k zero h = let e : k ≡ 0 = omega arith in rw e (omega arith)
 sum-part f k (suc n) h =

@@ -1,9 +1,9 @@
--- The few words in which the rules of the lent lists are said: 32-bit sums, a field of a record, bounded sums, "for all" and "some",
+-- The few words in which the rules of the lent lists are said: 32-bit sums, a field of a record, a part of a list, bounded sums, "for all" and "some",
 -- tests in a row, and the first number that passes a test.
 use Prim.Native.Nat.{ℕ, zero, suc, _+_, _-_, _*_, _/_, _%_, _^_}
 use mathlib.Core.Bool.{Bool, true, false, _&&_, _||_, cond}
 use mathlib.Core.List.{List, [], _∷_}
-use lib.ListN.{getD}
+use lib.ListN.{getD, take, drop}
 use lib.Dec.{leb, ltb}
 
 -- addresses are 32-bit
@@ -22,6 +22,11 @@ back a k = wrap (a + (2 ^ 32 - k))
 abbrev pub bit : ℕ → ℕ → ℕ
 bit w i = w / 2 ^ i % 2
 
+-- a flag as a word
+abbrev pub flag : Bool → ℕ
+flag true = 1
+flag false = 0
+
 -- from start up to, not including, end
 abbrev pub within : ℕ → ℕ → ℕ → Bool
 within start end x = leb start x && ltb x end
@@ -29,6 +34,10 @@ within start end x = leb start x && ltb x end
 -- word j of record k, where a record has w words
 abbrev pub field : List ℕ → ℕ → ℕ → ℕ → ℕ
 field s w k j = getD s (w * k + j) 0
+
+-- the elements from a place up to, not including, another
+abbrev pub part : List ℕ → ℕ → ℕ → List ℕ
+part s from to = take (to - from) (drop from s)
 
 -- f 0 + .. + f (n - 1)
 unfoldable pub sum : ℕ → (ℕ → ℕ) → ℕ

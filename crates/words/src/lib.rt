@@ -3,7 +3,7 @@
 ghost use mathlib.Core.Path.{_≡_};
 ghost use Prim.Native.Nat.{_+_, _*_, _<_, _≤_};
 ghost use lib.ListN.{length};
-ghost use Rattle.words.specs.Words.{field, sum, all, rising};
+ghost use Rattle.words.specs.Words.{field, flag, sum, all, rising};
 ghost use lib.Dec.{leb, eqb};
 
 // A word as a length or an index.
@@ -113,4 +113,11 @@ pub fn pairs_upto(s: &[u32], w: usize, n: usize, i: usize, j: usize, cap: usize)
         k += 1;
     }
     true
+}
+
+// A flag as a word.
+pub fn flag(b: bool) -> u32
+    ensures { λ r. ⌜ r ≡ flag b ⌝ }
+{
+    if b { 1 } else { 0 }
 }

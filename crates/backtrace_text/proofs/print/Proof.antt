@@ -1,5 +1,5 @@
 -- `backtrace_text::print` meets its contract. Assumes nothing.
-use Rattle.backtrace_text.proofs.Printing.{too-long, fits}
+use Rattle.digits.proofs.Measured.{too-long, fits}
 use borrow.Author.Needs.{needs}
 use Rattle.backtrace_text.proofs.print.Statement.{statement}
 use Rattle.backtrace_text.proofs.print.Tie as tie

@@ -1,5 +1,5 @@
 use lib.ListN.{length}
-use Prim.Native.Nat.{_+_, _≤_}
+use Prim.Native.Nat.{_+_, _*_, _≤_}
 use Rattle.cfi_unwind.proofs.ListLaws.{stored}
 use lib.ListN.{length-set}
 use native.Mathlib.Omega.{arith}
@@ -7,11 +7,11 @@ use borrow.Author.Needs.{needs}
 use Rattle.cfi_unwind.proofs.put.Statement.{statement}
 use Rattle.cfi_unwind.proofs.put.Tie as tie
 
-mul-wide : tie.Need-mul-wide
-mul-wide c = search needs
-
 wide-requires : tie.Need-wide-requires
 wide-requires c κs = search needs
+
+mul-at : tie.Need-mul-at
+mul-at c = search needs
 
 mul-frames : tie.Need-mul-frames
 mul-frames c = search needs
@@ -50,15 +50,15 @@ same-length : tie.Need-same-length
 same-length c = search needs
 
 returns : tie.Need-returns
-returns c = let h : c .wide .result + 4 ≤ length (c .before .before .args .frames .now) = omega arith in
+returns c = let h : 4 * c .wide .result + 4 ≤ length (c .before .before .args .frames .now) = omega arith in
     rw (← c .wide .ensures) (stored _ _ _ _ _ _ h)
 
 pub put-spec : {M : Type 1} → statement M
 put-spec =
     tie.close
     (tie.spec
-    mul-wide
     wide-requires
+    mul-at
     mul-frames
     slice-write-frames
     add-frames

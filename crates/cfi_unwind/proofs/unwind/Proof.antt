@@ -12,11 +12,11 @@ use Rattle.cfi_unwind.proofs.unwind.Tie as tie
 returns : tie.Need-returns
 returns c = answer-refused _ _ _ _ _ _ _ _ (refused-limit _ _ _ _ _ (c .if1 .taken))
 
-mul-wide : tie.Need-mul-wide
-mul-wide c = search needs
-
 wide-requires : tie.Need-wide-requires
 wide-requires c κs = search needs
+
+mul-if2 : tie.Need-mul-if2
+mul-if2 c = search needs
 
 returns-2 : tie.Need-returns-2
 returns-2 c = let h : length (c .before .before .before .before .before .before .before .before .before .before .before .before .args .frames .now) < frameWords * c .before .before .before .before .before .before .before .before .before .before .before .before .args .max-frames = omega arith in
@@ -46,8 +46,8 @@ returns-5 c = let h : frameWords * c .before .before .before .before .before .be
 walk-frames-requires : tie.Need-walk-frames-requires
 walk-frames-requires c κs = ((sym (c .before .before .before .before .before .before .book-is-good .ensures) ∙ not-false _ (c .before .before .before .before .before .if3 .left)), (sym (c .before .before .before .before .code-is-good .ensures) ∙ not-false _ (c .before .before .before .if4 .left)), (sym (c .before .before .memory-is-good .ensures) ∙ not-false _ (c .before .if5 .left)), omega arith, (c .before .before .before .before .before .before .before .before .before .if1 .left))
 
-sub-t19 : tie.Need-sub-t19
-sub-t19 c = walked-within _ _ _ _ _ _ _ (c .before .before .before .walk-frames .ensures .0)
+sub-t27 : tie.Need-sub-t27
+sub-t27 c = walked-within _ _ _ _ _ _ _ (c .before .before .before .walk-frames .ensures .0)
 
 same-length : tie.Need-same-length
 same-length c = search needs
@@ -61,8 +61,8 @@ unwind-spec =
     tie.close
     (tie.spec
     returns
-    mul-wide
     wide-requires
+    mul-if2
     returns-2
     book-is-good-requires
     returns-3
@@ -71,6 +71,6 @@ unwind-spec =
     memory-is-good-requires
     returns-5
     walk-frames-requires
-    sub-t19
+    sub-t27
     same-length
     returns-6)

@@ -1,6 +1,5 @@
 -- `exports::state_in` meets its contract. Assumes nothing.
 use Rattle.exports.proofs.LineLaws.{state-idle, state-registers, state-stack}
-use borrow.Author.Needs.{needs}
 use Rattle.exports.proofs.state_in.Statement.{statement}
 use Rattle.exports.proofs.state_in.Tie as tie
 

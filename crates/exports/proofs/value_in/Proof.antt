@@ -1,6 +1,5 @@
 -- `exports::value_in` meets its contract. Assumes nothing.
 use Rattle.exports.proofs.LineLaws.{value-unknown, value-known}
-use borrow.Author.Needs.{needs}
 use Rattle.exports.proofs.value_in.Statement.{statement}
 use Rattle.exports.proofs.value_in.Tie as tie
 

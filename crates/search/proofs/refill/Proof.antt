@@ -2,8 +2,8 @@ use Prim.Native.Nat.{_+_}
 use mathlib.Core.Path.{_≡_, sym, _∙_}
 use Rattle.rows.specs.View.{ruleList}
 use Rattle.memory.specs.Memory.{memoryOf, readAt}
-use Rattle.registers.specs.Registers.{newOf, setOf}
-use Rattle.search.specs.Recover.{placed, refill}
+use Rattle.registers.specs.Registers.{newOf, setOf, placed}
+use Rattle.search.specs.Recover.{refill}
 use Rattle.search.proofs.Scan.{refill-start, refill-next, refill-end}
 use borrow.Author.Needs.{needs}
 use Rattle.search.proofs.refill.Statement.{statement}

@@ -2,7 +2,7 @@
 use Prim.Native.Nat.{_≤_}
 use Rattle.sheet_walk.specs.Lines.{framesIn}
 use Rattle.sheet_walk.specs.SheetText.{sheetText}
-use Rattle.sheet_walk.proofs.TextLaws.{no-room, text-kept, has-room, text-put}
+use Rattle.digits.proofs.Measured.{too-long, fits}
 use Rattle.sheet_walk.proofs.WalkFits.{outcome-fits}
 use native.Mathlib.Omega.{arith}
 use borrow.Author.Needs.{needs}
@@ -28,7 +28,7 @@ put-outcome-requires c κs =
 
 returns : tie.Need-returns
 unfolding sheetText
-returns c = (no-room (c .before .before .before .before .before .before .before .before .before .before .args .text .now) (rw (c .before .before .before .before .before .before .outcome-of .ensures .0, c .before .before .before .before .before .before .outcome-of .ensures .1) at (c .before .before .put-outcome .ensures)) (c .if1 .taken), text-kept (c .before .before .before .before .before .before .before .before .before .before .args .text .now) (rw (c .before .before .before .before .before .before .outcome-of .ensures .0, c .before .before .before .before .before .before .outcome-of .ensures .1) at (c .before .before .put-outcome .ensures)) (c .if1 .taken))
+returns c = too-long (rw (c .before .before .before .before .before .before .outcome-of .ensures .0, c .before .before .before .before .before .before .outcome-of .ensures .1) at (c .before .before .put-outcome .ensures)) (c .before .before .before .before .before .before .before .before .before .before .args .text .now) (c .if1 .taken)
 
 slice-aggregate-put-outcome-3 : tie.Need-slice-aggregate-put-outcome-3
 slice-aggregate-put-outcome-3 c = search needs
@@ -43,7 +43,9 @@ same-length c = search needs
 
 returns-2 : tie.Need-returns-2
 unfolding sheetText
-returns-2 c = (has-room (c .before .before .before .before .before .before .before .before .before .before .before .before .before .before .before .args .text .now) (rw (c .before .before .before .before .before .before .before .before .before .before .before .outcome-of .ensures .0, c .before .before .before .before .before .before .before .before .before .before .before .outcome-of .ensures .1) at (c .before .before .before .before .before .before .before .put-outcome .ensures)) (c .before .before .before .before .before .if1 .left), text-put (c .before .before .before .before .before .before .before .before .before .before .before .before .before .before .before .args .text .now) (rw (c .before .before .before .before .before .before .before .before .before .before .before .outcome-of .ensures .0, c .before .before .before .before .before .before .before .before .before .before .before .outcome-of .ensures .1) at (c .before .before .before .before .before .before .before .put-outcome .ensures)) (c .before .before .before .before .before .if1 .left) (rw (c .before .before .before .before .before .before .before .before .before .before .before .outcome-of .ensures .0, c .before .before .before .before .before .before .before .before .before .before .before .outcome-of .ensures .1) at (c .before .before .put-outcome2 .ensures)))
+returns-2 c =
+    fits (rw (c .before .before .before .before .before .before .before .before .before .before .before .outcome-of .ensures .0, c .before .before .before .before .before .before .before .before .before .before .before .outcome-of .ensures .1) at (c .before .before .before .before .before .before .before .put-outcome .ensures)) (c .before .before .before .before .before .before .before .before .before .before .before .before .before .before .before .args .text .now) (c .before .before .before .before .before .if1 .left)
+    (rw (c .before .before .before .before .before .before .before .before .before .before .before .outcome-of .ensures .0, c .before .before .before .before .before .before .before .before .before .before .before .outcome-of .ensures .1) at (c .before .before .put-outcome2 .ensures))
 
 pub walk-sheet-spec : {M : Type 1} → statement M
 walk-sheet-spec =
