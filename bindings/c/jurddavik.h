@@ -135,6 +135,15 @@ uint32_t jurddavik_print_backtrace(const uint32_t *tables, size_t tables_length,
                                    uint8_t *text, size_t text_length,
                                    uint64_t written[1]);
 
+/* Reads a case sheet, walks it, and writes the answer as the program walksheet prints it; written[0] is how many bytes. A sheet that is refused has an
+ * answer too, a line `refused=`.
+ *
+ * Refused: 7.
+ */
+uint32_t jurddavik_walk_sheet(const uint8_t *sheet, size_t sheet_length,
+                              uint8_t *text, size_t text_length,
+                              uint64_t written[1]);
+
 #ifdef __cplusplus
 }
 #endif

@@ -40,12 +40,12 @@ walkedOf (Walked count stop used) words = count ∷ stopNumber stop ∷ stopValu
 unfoldable pub bookNumber : Book → ℕ
 bookNumber b = elim (bookIsGood b) [ true ↦ 0 | false ↦ refusalNumber BadBook ]
 
--- what the text call returns: 0, or the refusal's number
+-- what a call that puts a text returns: 0, or the refusal's number
 unfoldable pub printedNumber : Printed → ℕ
 printedNumber (printed.Refused r) = refusalNumber r
 printedNumber (printed.Text n) = 0
 
--- the word after the text call: how many bytes the text has; a refusal changes nothing
+-- the word after it: how many bytes the text has; a refusal changes nothing
 unfoldable pub writtenBy : Printed → List ℕ → List ℕ
 writtenBy (printed.Refused r) words = words
 writtenBy (printed.Text n) words = n ∷ []

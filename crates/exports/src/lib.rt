@@ -19,6 +19,8 @@ ghost use Rattle.code.specs.Code.{codeOf};
 ghost use Rattle.memory.specs.Memory.{memoryOf};
 ghost use Rattle.cfi_unwind.specs.Unwind.{answerOf, framesOf};
 ghost use Rattle.backtrace_text.specs.Backtrace.{printedOf, textAfter};
+ghost use Rattle.digits.specs.Printed.{fitted, headed};
+ghost use Rattle.sheet_walk.specs.SheetText.{sheetText};
 ghost use Rattle.stack_dump.specs.Lines.{lentOf};
 ghost use Rattle.exports.specs.Lines.{registerWords, stateIn, stateNumber, valueIn, topIn, collectorIn, stateWords, memoryWords, completeNumber, handed, fedOver};
 ghost use Rattle.exports.specs.Exports.{registersIn, numberOf, walkedOf, bookNumber, printedNumber, writtenBy};
@@ -134,6 +136,21 @@ pub extern "C" fn jurddavik_print_backtrace(
         Printed::Refused(refusal) => refusal.number(),
         Printed::Text(bytes) => {
             *written = [bytes as u64];
+            0
+        }
+    }
+}
+
+// Reads a case sheet, walks it, and puts the text of the answer, a refused sheet's included, at the head of `text`. `written` gets how many bytes those are.
+#[no_mangle]
+pub extern "C" fn jurddavik_walk_sheet(sheet: &[u8], text: &mut [u8], written: &mut [u64; 1]) -> u32
+    ensures { λ r. ⌜ (r ≡ printedNumber (fitted (sheetText (now (sheet .entry))) (length (now (text .entry))))) × (now (text .exit) ≡ headed (sheetText (now (sheet .entry))) (now (text .entry))) × (now (written .exit) ≡ writtenBy (fitted (sheetText (now (sheet .entry))) (length (now (text .entry)))) (now (written .entry))) ⌝ }
+{
+    let printed = sheet_walk::walk_sheet(sheet, text);
+    match printed {
+        Printed::Refused(reason) => reason.number(),
+        Printed::Text(length) => {
+            *written = [length as u64];
             0
         }
     }

@@ -5,11 +5,10 @@ use esp_backtrace::StackTop;
 use esp_idf::EspIdf;
 use registers::Registers;
 use registers::Value;
+use replaying::Lengths;
 use stack_dump::Fed;
 use stack_dump::Holder;
 use stack_dump::Line;
-ghost use Prim.Native.Nat.{_+_, _≤_, _<_};
-ghost use lib.ListN.{length};
 
 // A place that no answer has: an answer's length has five digits.
 const BEYOND: usize = 100000;
@@ -17,7 +16,7 @@ const BEYOND: usize = 100000;
 // What comes next on standard input. Anything that has not the form of a record ends the replay, and the count of lines then tells.
 enum Record {
     Start(StackTop),
-    Line { length: usize, answer: usize },
+    Line(Lengths),
     NoMore,
 }
 
@@ -57,14 +56,6 @@ fn expect_flag(answer: &[u8], at: usize, name: &[u8], flag: bool) -> usize {
     expect(answer, from, b"0\n")
 }
 
-// The place behind the first n bytes of a piece.
-fn expect_front(answer: &[u8], at: usize, piece: &[u8], n: usize) -> usize {
-    if piece.len() < n {
-        return BEYOND;
-    }
-    expect(answer, at, &piece[0..n])
-}
-
 // The place behind a register's line, which only a known one has.
 fn expect_register(answer: &[u8], at: usize, registers: Registers, r: u32) -> usize {
     let Value::Known(value) = registers.get(r) else {
@@ -73,7 +64,12 @@ fn expect_register(answer: &[u8], at: usize, registers: Registers, r: u32) -> us
     let mut number = [0u8; 10];
     let n = digits::put_decimal(&mut number, 0, r);
     let from = expect(answer, at, b"reg=");
-    expect_hex(answer, expect_front(answer, from, &number, n), b",", value)
+    expect_hex(
+        answer,
+        expect(answer, from, replaying::front(&number, n)),
+        b",",
+        value,
+    )
 }
 
 // The place behind the lines of the registers.
@@ -205,104 +201,35 @@ fn unread(collector: EspIdf) -> Replayed {
     }
 }
 
-// Feeds the line at the front of a list, whose answer stands at the front of another.
-fn feed_front(
-    collector: EspIdf,
-    top: StackTop,
-    lines: &[u8],
-    line: usize,
-    answers: &[u8],
-    answer: usize,
-    idf_words: &mut [u32],
-    idf_segments: &mut [u32],
-    sd_words: &mut [u32],
-    sd_segments: &mut [u32],
-) -> Replayed {
-    if lines.len() < line {
-        return unread(collector);
-    }
-    if answers.len() < answer {
-        return unread(collector);
-    }
-    feed(
-        collector,
-        top,
-        &lines[0..line],
-        &answers[0..answer],
-        idf_words,
-        idf_segments,
-        sd_words,
-        sd_segments,
-    )
-}
-
-// Reads a part of a list, and says whether the list has it and its bytes were there.
-fn read_part(list: &mut [u8], from: usize, to: usize) -> bool {
-    if list.len() < to {
-        return false;
-    }
-    if to < from {
-        return false;
-    }
-    io::read_full(0, &mut list[from..to]) == to - from
-}
-
 // Reads a line and its answer, and feeds the line. Lengths of five digits always fit. The lists are arrays up to here, so that a loop over lines need
 // not be shown to keep their lengths.
 fn replay(
     collector: EspIdf,
     top: StackTop,
-    length: usize,
-    answer_length: usize,
+    lengths: Lengths,
     idf_words: &mut [u32; 16384],
     idf_segments: &mut [u32; 128],
     sd_words: &mut [u32; 16384],
     sd_segments: &mut [u32; 128],
 ) -> Replayed {
     let mut line = [0u8; 100000];
-    if !read_part(&mut line, 0, length) {
+    if !replaying::read_part(&mut line, 0, lengths.input) {
         return unread(collector);
     }
     let mut answer = [0u8; 100000];
-    if !read_part(&mut answer, 0, answer_length) {
+    if !replaying::read_part(&mut answer, 0, lengths.answer) {
         return unread(collector);
     }
-    feed_front(
+    feed(
         collector,
         top,
-        &line,
-        length,
-        &answer,
-        answer_length,
+        replaying::front(&line, lengths.input),
+        replaying::front(&answer, lengths.answer),
         idf_words,
         idf_segments,
         sd_words,
         sd_segments,
     )
-}
-
-// What a digit is worth.
-fn digit(b: u8) -> usize
-    ensures { λ r. ⌜ r < 10 ⌝ }
-{
-    if b < 48 {
-        return 0;
-    }
-    if 57 < b {
-        return 0;
-    }
-    (b - 48) as usize
-}
-
-// The number of five digits.
-fn number(head: &[u8], at: usize) -> usize
-    requires { ⌜ at + 5 ≤ length (now head) ⌝ }
-{
-    10000 * digit(head[at])
-        + 1000 * digit(head[at + 1])
-        + 100 * digit(head[at + 2])
-        + 10 * digit(head[at + 3])
-        + digit(head[at + 4])
 }
 
 // The word of eight hex digits at `at`.
@@ -315,14 +242,14 @@ fn word(head: &[u8], at: usize) -> u32 {
 // Reads up to the line itself. The shortest head has 11 bytes: so many are read at once, and the rest when it is known which it is.
 fn next_record() -> Record {
     let mut head = [0u8; 17];
-    if !read_part(&mut head, 0, 11) {
+    if !replaying::read_part(&mut head, 0, 11) {
         return Record::NoMore;
     }
     if scan::has(&head, 0, b"start=none\n") {
         return Record::Start(StackTop::Unknown);
     }
     if scan::has(&head, 0, b"start=") {
-        if !read_part(&mut head, 11, 15) {
+        if !replaying::read_part(&mut head, 11, 15) {
             return Record::NoMore;
         }
         return Record::Start(StackTop::Known(word(&head, 6)));
@@ -330,35 +257,10 @@ fn next_record() -> Record {
     if !scan::has(&head, 0, b"line=") {
         return Record::NoMore;
     }
-    if !read_part(&mut head, 11, 17) {
+    if !replaying::read_part(&mut head, 11, 17) {
         return Record::NoMore;
     }
-    Record::Line {
-        length: number(&head, 5),
-        answer: number(&head, 11),
-    }
-}
-
-// Counts a line that differs, and says which it is.
-fn count_different(line: u64, is_alike: bool) -> u64
-    ensures { λ r. ⌜ r ≤ 1 ⌝ }
-{
-    if is_alike {
-        return 0;
-    }
-    io::write_all(1, b"different: line ");
-    io::print_decimal(1, line);
-    io::write_all(1, b"\n");
-    1
-}
-
-// Says how many lines there were, and how many differed.
-fn say(lines: u64, different: u64) {
-    io::write_all(1, b"lines=");
-    io::print_decimal(1, lines);
-    io::write_all(1, b"\ndifferent=");
-    io::print_decimal(1, different);
-    io::write_all(1, b"\n");
+    Record::Line(replaying::read_lengths(&head))
 }
 
 // A proved loop has to end, and nothing says that the input does: so it has a bound, which no list of records reaches.
@@ -379,23 +281,23 @@ fn main() {
                 top = known;
                 collector = EspIdf::new();
             }
-            Record::Line { length, answer } => {
+            Record::Line(lengths) => {
                 let replayed = replay(
                     collector,
                     top,
-                    length,
-                    answer,
+                    lengths,
                     &mut idf_words,
                     &mut idf_segments,
                     &mut sd_words,
                     &mut sd_segments,
                 );
                 collector = replayed.collector;
-                different += count_different(lines, replayed.is_alike);
+                different += replaying::count_different(b"line", lines, replayed.is_alike);
                 lines += 1;
             }
             Record::NoMore => {
-                say(lines, different);
+                replaying::say_count(b"lines", lines);
+                replaying::say_count(b"different", different);
                 return;
             }
         }

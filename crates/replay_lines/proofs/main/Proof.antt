@@ -5,11 +5,11 @@ use Rattle.replay_lines.proofs.main.Statement.{statement}
 use Rattle.replay_lines.proofs.main.Tie as tie
 
 abbrev Inv-loop : tie.InvT-loop
-Inv-loop idf-words₀ idf-segments₀ sd-words₀ sd-segments₀ collector₀ top₀ lines₀ different₀ records₀ idf-words idf-segments sd-words sd-segments collector top lines different records =
+Inv-loop idf-words₀ idf-segments₀ sd-words₀ sd-segments₀ collector₀ top₀ lines₀ different₀ records₀ t13 t14 t15 idf-words idf-segments sd-words sd-segments collector top lines different records =
     (different ≤ lines) × (lines ≤ records)
 
 abbrev μ-loop : tie.MeasureT-loop
-μ-loop idf-words₀ idf-segments₀ sd-words₀ sd-segments₀ collector₀ top₀ lines₀ different₀ records₀ idf-words idf-segments sd-words sd-segments collector top lines different records =
+μ-loop idf-words₀ idf-segments₀ sd-words₀ sd-segments₀ collector₀ top₀ lines₀ different₀ records₀ t13 t14 t15 idf-words idf-segments sd-words sd-segments collector top lines different records =
     1000000 - records
 
 new-requires : tie.Need-new-requires Inv-loop μ-loop
@@ -36,11 +36,14 @@ loop-less c = search needs
 loop-again : tie.Need-loop-again Inv-loop μ-loop
 loop-again c = search needs
 
-enum-known-length : tie.Need-enum-known-length Inv-loop μ-loop
-enum-known-length c = search needs
+enum-known-lengths : tie.Need-enum-known-lengths Inv-loop μ-loop
+enum-known-lengths c = search needs
 
 replay-requires : tie.Need-replay-requires Inv-loop μ-loop
 replay-requires c κs = search needs
+
+slice-aggregate-count-different : tie.Need-slice-aggregate-count-different Inv-loop μ-loop
+slice-aggregate-count-different c = search needs
 
 count-different-requires : tie.Need-count-different-requires Inv-loop μ-loop
 count-different-requires c κs = search needs
@@ -60,8 +63,17 @@ loop-again-2 c = search needs
 enum-told : tie.Need-enum-told Inv-loop μ-loop
 enum-told c = search needs
 
-say-requires : tie.Need-say-requires Inv-loop μ-loop
-say-requires c κs = search needs
+slice-aggregate-say-count : tie.Need-slice-aggregate-say-count Inv-loop μ-loop
+slice-aggregate-say-count c = search needs
+
+say-count-requires : tie.Need-say-count-requires Inv-loop μ-loop
+say-count-requires c κs = search needs
+
+slice-aggregate-say-count-2 : tie.Need-slice-aggregate-say-count-2 Inv-loop μ-loop
+slice-aggregate-say-count-2 c = search needs
+
+say-count-requires-2 : tie.Need-say-count-requires-2 Inv-loop μ-loop
+say-count-requires-2 c κs = search needs
 
 returns : tie.Need-returns Inv-loop μ-loop
 returns c = search needs
@@ -83,14 +95,18 @@ main-spec =
     new-requires-2
     loop-less
     loop-again
-    enum-known-length
+    enum-known-lengths
     replay-requires
+    slice-aggregate-count-different
     count-different-requires
     add-different
     add-lines
     loop-less-2
     loop-again-2
     enum-told
-    say-requires
+    slice-aggregate-say-count
+    say-count-requires
+    slice-aggregate-say-count-2
+    say-count-requires-2
     returns
     returns-2)

@@ -1,15 +1,14 @@
 //! The comparison: every part of it, until a difference is found.
 
-use crate::texts;
 use crate::{
-    gen_caps, gen_walk, lists::Lists, options::Options, random::Random, real, show, shrink,
-    tally::Tally, walks,
+    gen_caps, gen_walk, lists::Lists, options::Options, random::Random, real, sheets, show, shrink,
+    tally::Tally, texts, walks,
 };
 use crate::{
     gen_lines::{self, EXHAUSTIVE},
     lines::{self, Log},
 };
-use std::time::Instant;
+use std::{fs, time::Instant};
 
 pub fn compare(options: &Options) -> Result<(), String> {
     let start = Instant::now();
@@ -44,6 +43,14 @@ fn compare_real(options: &Options, tally: &mut Tally) -> Result<(), String> {
         let from = path.display().to_string();
         compare_walk(&from, lists, true, tally)?;
         compare_text(&from, lists, &mut Random::new(options.seed, 0), tally)?;
+        let bytes = fs::read(path).map_err(|error| error.to_string())?;
+        compare_sheet(
+            &from,
+            &bytes,
+            u32::MAX,
+            &mut Random::new(options.seed, 0),
+            tally,
+        )?;
     }
 
     Ok(())
@@ -70,6 +77,11 @@ fn compare_walks(options: &Options, tally: &mut Tally) -> Result<(), String> {
         };
         for (number, lists) in made.iter().enumerate() {
             compare_walk(&from, lists, number == 0, tally)?;
+        }
+        // One of each family as a sheet too.
+        let lists = &made[family as usize % made.len()];
+        if let Some(bytes) = sheets::made(lists, &mut random) {
+            compare_sheet(&from, &bytes, options.allowance, &mut random, tally)?;
         }
         family += 1;
     }
@@ -117,6 +129,23 @@ fn compare_text(
         Some(what) => Err(report(from, &what, lists, |lists| {
             texts::difference(lists, &mut same.clone(), &mut Tally::default())
         })),
+    }
+}
+
+/// Compares the answer to a sheet, if its allowance is not above that.
+fn compare_sheet(
+    from: &str,
+    bytes: &[u8],
+    allowance: u32,
+    random: &mut Random,
+    tally: &mut Tally,
+) -> Result<(), String> {
+    match sheets::difference(bytes, allowance, random, tally) {
+        None => Ok(()),
+        Some(what) => Err(format!(
+            "DIFFERENCE in the sheet of {from}: {what}\n\n{}",
+            bytes.escape_ascii()
+        )),
     }
 }
 

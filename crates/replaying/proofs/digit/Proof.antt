@@ -1,0 +1,25 @@
+-- `replaying::digit` meets its contract. Assumes nothing.
+use native.Mathlib.Omega.{arith}
+use borrow.Author.Tests.{lt-ltb, le-ltb}
+use Rattle.replaying.specs.Replaying.{digitOf}
+use borrow.Author.Needs.{needs}
+use Rattle.replaying.proofs.digit.Statement.{statement}
+use Rattle.replaying.proofs.digit.Tie as tie
+
+returns : tie.Need-returns
+unfolding digitOf
+returns c = (rw (lt-ltb _ _ (c .if1 .taken)), omega arith)
+
+returns-2 : tie.Need-returns-2
+unfolding digitOf
+returns-2 c = (rw (le-ltb _ _ (c .before .if1 .left), lt-ltb _ _ (c .if2 .taken)), omega arith)
+
+cast-result : tie.Need-cast-result
+cast-result c = search needs
+
+returns-3 : tie.Need-returns-3
+unfolding digitOf
+returns-3 c = (rw (le-ltb _ _ (c .before .if1 .left), le-ltb _ _ (c .if2 .left)), omega arith)
+
+pub digit-spec : {M : Type 1} → statement M
+digit-spec = tie.close (tie.spec returns returns-2 cast-result returns-3)
