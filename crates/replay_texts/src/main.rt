@@ -3,8 +3,6 @@
 // 2 rebuilt ones too, 3 more than 16. Says which texts differ, counted from 0, and how many there were of each kind and in all.
 use digits::Printed;
 use page::Loaded;
-use registers::Registers;
-use sheet::State;
 use sheet::Verdict;
 ghost use Prim.Native.Nat.{_≤_};
 
@@ -12,27 +10,6 @@ ghost use Prim.Native.Nat.{_≤_};
 enum Case {
     Shown { kind: usize, is_alike: bool },
     NoMore,
-}
-
-// The words of the page from a place up to, not including, another; none where the page has no such part.
-fn part(page: &[u32], from: usize, to: usize) -> &[u32] {
-    if page.len() < to {
-        return &page[..0];
-    }
-    if to < from {
-        return &page[..0];
-    }
-    &page[from..to]
-}
-
-// The registers of a sheet: `pc`, `ret` and `place` with the `reg` lines.
-fn registers_of(state: State) -> Registers {
-    let head = state.head;
-    let mut registers = state.registers;
-    registers.pc = head[2];
-    registers.pc_is_return_address = head[3] == 1;
-    registers.sp_is_placeholder = head[4] == 1;
-    registers
 }
 
 // Prints the backtrace of the lists that a good sheet has on the page and in the code list. The lists are arrays up to here, whose lengths need no proof.
@@ -45,15 +22,15 @@ fn print_lists(
     let state = loaded.state;
     let head = state.head;
     backtrace_text::print_backtrace(
-        part(page, page::TABLES, page::next_of(state, 7)),
-        part(page, page::FUNCTIONS, page::next_of(state, 8)),
-        part(page, page::ROWS, page::next_of(state, 9)),
-        part(page, page::RULES, page::next_of(state, 10)),
-        part(page, page::SECTIONS, page::next_of(state, 6)),
+        words::part(page, page::TABLES, page::next_of(state, 7)),
+        words::part(page, page::FUNCTIONS, page::next_of(state, 8)),
+        words::part(page, page::ROWS, page::next_of(state, 9)),
+        words::part(page, page::RULES, page::next_of(state, 10)),
+        words::part(page, page::SECTIONS, page::next_of(state, 6)),
         replaying::front(code, loaded.bytes),
-        part(page, page::SEGMENTS, page::next_of(state, 11)),
-        part(page, page::WORDS, page::next_of(state, 12)),
-        registers_of(state),
+        words::part(page, page::SEGMENTS, page::next_of(state, 11)),
+        words::part(page, page::WORDS, page::next_of(state, 12)),
+        sheet_walk::registers_of(state),
         head[1],
         text,
     )

@@ -9,7 +9,6 @@ use Rattle.cfi_unwind.specs.declared.Answer.the-variants.{Refused}
 use Rattle.refusal.specs.declared.Refusal.the-variants.{BadSheet}
 use Rattle.sheet.specs.declared.Verdict.the-variants.{Good, Bad}
 use Rattle.sheet.specs.Sheet.{readOf}
-use Rattle.sheet.proofs.Capped.{Capped, read-capped}
 use Rattle.page.specs.declared.Loaded.{Loaded}
 use Rattle.page.specs.Page.{bytesOf, codeAfter, loadedOf}
 use Rattle.page.proofs.Loading.{code-whole}
@@ -28,9 +27,6 @@ module _ (sheet frames : List ℕ) (r : Loaded) (e : r ≡ loadedOf sheet) where
   bytes-are : r .bytes ≡ length (bytesOf sheet)
   unfolding loadedOf
   bytes-are = ap (λ (x : Loaded). x .bytes) e
-
-  pub capped : Capped (r .state)
-  capped k = rw state-is (read-capped sheet k)
 
   pub code-lent : (code after : List ℕ) → after ≡ codeAfter sheet code → take (r .bytes) after ≡ bytesOf sheet
   code-lent code after f = rw (bytes-are, f) (bytes-lent sheet code)

@@ -2,19 +2,19 @@
 use cfi_unwind::Answer;
 use digits::Printed;
 use refusal::Refusal;
+use registers::Registers;
 use sheet::State;
 use sheet::Verdict;
 use stop::Stop;
 ghost use mathlib.Core.Path.{_≡_};
 ghost use mathlib.Core.List.{_++_};
-ghost use Prim.Native.Nat.{ℕ, _+_, _*_, _≤_, _<_};
-ghost use lib.ListN.{length, getD};
+ghost use Prim.Native.Nat.{_+_, _*_, _≤_, _<_};
+ghost use lib.ListN.{length};
 ghost use Rattle.refusal.specs.Refusal.{refusalNumber};
 ghost use Rattle.digits.specs.Digits.{Stored, hex8, decimal};
 ghost use Rattle.digits.specs.Printed.{fitted, headed};
-ghost use Rattle.sheet.specs.Sheet.{count, caps};
 ghost use Rattle.sheet_walk.specs.Lines.{frameLine, frameLines, stopLine, usedLine, refusedLine, outcomeText, framesIn};
-ghost use Rattle.sheet_walk.specs.SheetText.{walkAnswer, walkFrames, outcomeOf, listOf, sheetText};
+ghost use Rattle.sheet_walk.specs.SheetText.{registersOf, walkAnswer, walkFrames, outcomeOf, listOf, sheetText};
 
 // What a sheet comes to: the walk's answer, and the first bad line of a sheet that is refused for it.
 pub struct Outcome {
@@ -119,33 +119,33 @@ fn put_outcome(out: &mut [u8], frames: &[u32], outcome: Outcome) -> usize
     }
 }
 
-// Walks the lists that a good sheet's state and page hold.
-fn walk(page: &[u32], code: &[u8], state: State, frames: &mut [u32]) -> Answer
-    requires { ⌜ (length (now page) ≡ 30952) × ((k : ℕ) → count state k ≤ getD caps k 0) ⌝ }
-    ensures { λ r. ⌜ (r ≡ walkAnswer state (now (page .entry)) (now (code .entry)) (now (frames .entry))) × (now (frames .exit) ≡ walkFrames state (now (page .entry)) (now (code .entry)) (now (frames .entry))) ⌝ }
+// The registers of a sheet: `pc`, `ret` and `place` with the `reg` lines.
+pub fn registers_of(state: State) -> Registers
+    ensures { λ r. ⌜ r ≡ registersOf state ⌝ }
 {
     let head = state.head;
     let mut registers = state.registers;
     registers.pc = head[2];
     registers.pc_is_return_address = head[3] == 1;
     registers.sp_is_placeholder = head[4] == 1;
-    let sections = page::next_of(state, 6);
-    let tables = page::next_of(state, 7);
-    let functions = page::next_of(state, 8);
-    let rows = page::next_of(state, 9);
-    let rules = page::next_of(state, 10);
-    let segments = page::next_of(state, 11);
-    let words = page::next_of(state, 12);
+    registers
+}
+
+// Walks the lists that a good sheet's state and page hold.
+fn walk(page: &[u32], code: &[u8], state: State, frames: &mut [u32]) -> Answer
+    ensures { λ r. ⌜ (r ≡ walkAnswer state (now (page .entry)) (now (code .entry)) (now (frames .entry))) × (now (frames .exit) ≡ walkFrames state (now (page .entry)) (now (code .entry)) (now (frames .entry))) ⌝ }
+{
+    let head = state.head;
     cfi_unwind::unwind(
-        &page[page::TABLES..tables],
-        &page[page::FUNCTIONS..functions],
-        &page[page::ROWS..rows],
-        &page[page::RULES..rules],
-        &page[page::SECTIONS..sections],
+        words::part(page, page::TABLES, page::next_of(state, 7)),
+        words::part(page, page::FUNCTIONS, page::next_of(state, 8)),
+        words::part(page, page::ROWS, page::next_of(state, 9)),
+        words::part(page, page::RULES, page::next_of(state, 10)),
+        words::part(page, page::SECTIONS, page::next_of(state, 6)),
         code,
-        &page[page::SEGMENTS..segments],
-        &page[page::WORDS..words],
-        registers,
+        words::part(page, page::SEGMENTS, page::next_of(state, 11)),
+        words::part(page, page::WORDS, page::next_of(state, 12)),
+        registers_of(state),
         head[0],
         head[1],
         frames,

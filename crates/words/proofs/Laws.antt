@@ -4,7 +4,8 @@ use Prim.Native.Nat.{ℕ, zero, suc, _+_, _-_, _*_, _≤_, _<_}
 use mathlib.Core.Path.{_≡_, refl, sym, ap, _∙_, fun-ext}
 use mathlib.Core.Bool.{true≢false, _||_, Bool, true, false, _&&_, cond, and-false, or-true}
 use mathlib.Core.List.{List, [], _∷_}
-use lib.ListN.{getD}
+use lib.ListN.{length, getD, take, drop, length-drop, drop-of-length-le}
+use lib.Seq.{take-all, take-nil}
 use lib.Dec.{leb, ltb}
 use borrow.Author.Tests.{leb-true, le-leb, lt-leb, lt-ltb, le-ltb}
 use mathlib.Core.Logic.{_⊎_, ⊎-elim}
@@ -12,7 +13,7 @@ use native.Mathlib.Nat.{eq-or-lt-of-le, le-of-suc-le-suc, mul-le-mul-left, mul-l
 use native.Mathlib.Numerals.{add-one, sub-one}
 use native.Mathlib.Omega.{arith}
 use Rattle.words.proofs.Cases.{by-bool}
-use Rattle.words.specs.Words.{within, field, sum, all, any, every, firstFrom, howMany, rising}
+use Rattle.words.specs.Words.{within, field, part, sum, all, any, every, firstFrom, howMany, rising}
 
 pub sum-more : (f : ℕ → ℕ) (n : ℕ) → sum (n + 1) f ≡ sum n f + f n
 unfolding sum
@@ -280,3 +281,15 @@ module _ (start end x : ℕ) where
 
   pub past-range : end ≤ x → within start end x ≡ false
   past-range h = rw (le-ltb x end h) (and-false (leb start x))
+
+-- a part that ends before it starts, one behind the end, and one that reaches the end
+module _ (s : List ℕ) (from to : ℕ) where
+  pub part-none : to ≤ from → take 0 s ≡ part s from to
+  part-none h = let e : to - from ≡ 0 = omega arith in rw e
+
+  pub part-past : length s ≤ from → take 0 s ≡ part s from to
+  part-past h = rw (drop-of-length-le s h) (sym (take-nil (to - from)))
+
+  pub part-rest : length s ≤ to → take (length s - from) (drop from s) ≡ part s from to
+  part-rest h =
+      take-all (length s - from) (drop from s) (simp length-drop (omega arith)) ∙ sym (take-all (to - from) (drop from s) (simp length-drop (omega arith)))

@@ -3,7 +3,7 @@
 ghost use mathlib.Core.Path.{_≡_};
 ghost use Prim.Native.Nat.{_+_, _*_, _<_, _≤_};
 ghost use lib.ListN.{length};
-ghost use Rattle.words.specs.Words.{field, flag, sum, all, rising};
+ghost use Rattle.words.specs.Words.{field, flag, part, sum, all, rising};
 ghost use lib.Dec.{leb, eqb};
 
 // A word as a length or an index.
@@ -19,6 +19,22 @@ pub fn word(s: &[u32], w: usize, k: usize, j: usize) -> u32
     ensures { λ r. ⌜ r ≡ field (now (s .entry)) w k j ⌝ }
 {
     s[w * k + j]
+}
+
+// The elements from a place up to, not including, another: as many as there are.
+pub fn part(s: &[u32], from: usize, to: usize) -> &[u32]
+    ensures { λ r. ⌜ now r ≡ part (now (s .entry)) from to ⌝ }
+{
+    if to <= from {
+        return &s[..0];
+    }
+    if s.len() <= from {
+        return &s[..0];
+    }
+    if s.len() <= to {
+        return &s[from..];
+    }
+    &s[from..to]
 }
 
 // The sum of word j over the first n records.

@@ -1,11 +1,8 @@
 -- `sheet_walk::outcome_of` meets its contract. Assumes nothing.
 use lib.ListN.{length, length-take}
 use Rattle.page.proofs.Loading.{page-whole}
-use Rattle.sheet_walk.proofs.Outcomes.{bytes-in, capped, code-lent, bad-outcome, bad-list, good-outcome, good-list}
+use Rattle.sheet_walk.proofs.Outcomes.{bytes-in, code-lent, bad-outcome, bad-list, good-outcome, good-list}
 use mathlib.Core.Path.{sym, ap, _∙_}
-use lib.ListN.{length}
-use Rattle.page.proofs.Loading.{page-whole}
-use Rattle.sheet_walk.proofs.Outcomes.{capped, code-lent, bad-outcome, bad-list, good-outcome, good-list}
 use native.Mathlib.Omega.{arith}
 use borrow.Author.Needs.{needs}
 use Rattle.sheet_walk.proofs.outcome_of.Statement.{statement}
@@ -33,7 +30,7 @@ slice-aggregate-walk-2 : tie.Need-slice-aggregate-walk-2
 slice-aggregate-walk-2 c = omega (arith, length-take (c .before .before .before .before .before .load .result .bytes) (c .before .before .before .before .before .load .last .1 .1 .0), bytes-in (c .before .before .before .before .before .before .before .before .before .before .args .sheet .now) (c .before .before .before .before .before .before .before .before .before .before .args .frames .now) (c .before .before .before .before .before .load .result) (c .before .before .before .before .before .load .ensures .0) _ (c .before .before .before .before .before .load .ensures .3) (c .before .before .before .before .before .load .ensures .1))
 
 walk-requires : tie.Need-walk-requires
-walk-requires c κs = (ap length (c .before .before .before .before .before .before .load .ensures .2) ∙ page-whole _, capped (c .before .before .before .before .before .before .before .before .before .before .before .args .sheet .now) (c .before .before .before .before .before .before .before .before .before .before .before .args .frames .now) (c .before .before .before .before .before .before .load .result) (c .before .before .before .before .before .before .load .ensures .0))
+walk-requires c κs = search needs
 
 same-length : tie.Need-same-length
 same-length c = search needs
