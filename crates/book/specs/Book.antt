@@ -11,6 +11,7 @@ pub record Book : Type 0 where
   pub rows : List ℕ
   pub rules : List ℕ
 
+-- the four lists as one
 abbrev pub bookOf : List ℕ → List ℕ → List ℕ → List ℕ → Book
 bookOf tables functions rows rules = record { tables = tables; functions = functions; rows = rows; rules = rules }
 

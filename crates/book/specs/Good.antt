@@ -7,13 +7,15 @@ use lib.Dec.{ltb, leb, eqb}
 use Rattle.words.specs.Words.{sum, all, every, rising}
 use Rattle.book.specs.Book.{Book, functionCount, functionStart, functionEnd, firstRow, rowCount, rowStart, rowEnd, cfaKind, cfaRegister, firstRule, ruleCount, ruleRegister, ruleKind, ruleOperand}
 
--- how many functions, rows and rules the book has
+-- how many functions the book has
 abbrev pub functionsOf : Book → ℕ
 functionsOf b = length (b .functions) / 4
 
+-- how many rows
 abbrev pub rowsOf : Book → ℕ
 rowsOf b = length (b .rows) / 7
 
+-- how many rules
 abbrev pub rulesOf : Book → ℕ
 rulesOf b = length (b .rules) / 3
 
@@ -23,6 +25,7 @@ withinCaps b =
     leb (length (b .tables)) 8 && leb (length (b .functions)) (4 * 65536)
     && leb (length (b .rows)) (7 * 262144) && leb (length (b .rules)) (3 * 1048576)
 
+-- no list ends within a record
 abbrev pub wholeRecords : Book → Bool
 wholeRecords b = eqb (length (b .functions) % 4) 0 && eqb (length (b .rows) % 7) 0 && eqb (length (b .rules) % 3) 0
 

@@ -35,6 +35,7 @@ unfoldable pub shortCall : Code → ℕ → Call
 shortCall c pc =
     onWord (λ w. cond (isCJal w) (Direct (plus pc (cjDistance w))) (cond (isCJalr w) Indirect None)) None (insnAt 2 c pc)
 
+-- a call, or where there is none the other
 abbrev pub orElse : Call → Call → Call
 orElse (Direct t) b = Direct t
 orElse Indirect b = Indirect

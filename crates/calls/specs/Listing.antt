@@ -28,6 +28,7 @@ unfoldable pub andThen : {A B : Type 0} → Out A → (A → ℕ → Out B) → 
 andThen spent k = spent
 andThen (ok a l) k = k a l
 
+-- the size by the first two bytes, where they can be read
 abbrev pub sizeIn : Insn → Option ℕ
 sizeIn (Is w) = some (cond (eqb (w % 4) 3) 4 2)
 sizeIn Unread = none
@@ -83,6 +84,7 @@ abbrev pub listingBy : First → ℕ → Listing
 listingBy (At ra) l = Straight ra l
 listingBy NotYet l = Other l
 
+-- whether there is a straight call, as the code answers it
 abbrev pub firstOf : Option ℕ → First
 firstOf none = NotYet
 firstOf (some ra) = At ra

@@ -41,6 +41,7 @@ longer m fs w = record { frames = fs ++ w .frames; stop = w .stop; left = w .lef
 abbrev pub ended : Stop → ℕ → Walked
 ended s left = record { frames = []; stop = s; left = left; made = false }
 
+-- a stack pointer, or where it is not known the other
 abbrev pub orElse : ℕ → Option ℕ → ℕ
 orElse sp none = sp
 orElse sp (some s) = s

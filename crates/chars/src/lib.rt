@@ -5,6 +5,7 @@ mod table;
 ghost use mathlib.Core.Path.{_≡_};
 ghost use Rattle.chars.specs.Classes.{isIn, hexValue, classes};
 
+// What the scanners ask of a byte.
 pub enum Class {
     Space,
     Digit,

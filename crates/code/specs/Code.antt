@@ -15,6 +15,7 @@ pub record Code : Type 0 where
   pub sections : List ℕ
   pub bytes : List ℕ
 
+-- both lists as one
 abbrev pub codeOf : List ℕ → List ℕ → Code
 codeOf sections bytes = record { sections = sections; bytes = bytes }
 
@@ -57,6 +58,7 @@ unfoldable pub little : ℕ → List ℕ → ℕ → ℕ
 little zero bytes p = 0
 little (suc n) bytes p = getD bytes p 0 + 256 * little n bytes (p + 1)
 
+-- the number that n bytes stand for, where they have a place
 abbrev pub readAt : ℕ → List ℕ → Place → Insn
 readAt n bytes (At p) = Is (little n bytes p)
 readAt n bytes Nowhere = Unread

@@ -78,6 +78,7 @@ fn find(sections: &[u32], n: u32, addr: u32) -> Place
     }
 }
 
+// Byte i as a number.
 fn byte(code: &[u8], i: usize) -> u32
     requires { ⌜ i < length (now code) ⌝ }
     ensures { λ r. ⌜ (r ≡ getD (now (code .entry)) i 0) × (r < 256) ⌝ }

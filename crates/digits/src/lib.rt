@@ -40,6 +40,7 @@ fn digit_of(n: u32) -> u8
     87 + n as u8
 }
 
+// The eight hex digits of a number.
 fn hex_digits(v: u32) -> [u8; 8]
     ensures { λ r. ⌜ r ≡ hex8 v ⌝ }
 {
@@ -65,6 +66,7 @@ pub fn put_hex(out: &mut [u8], at: usize, v: u32) -> usize
     put(out, at, &d)
 }
 
+// Its ten decimal digits, zeros at the head included.
 fn decimal_digits(v: u32) -> [u8; 10]
     ensures { λ r. ⌜ r ≡ decimal10 v ⌝ }
 {

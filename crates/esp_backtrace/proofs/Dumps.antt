@@ -73,7 +73,7 @@ module _ (s : List ℕ) (start end split : ℕ) (es : start ≡ past Space s 11)
       ∙ (every-last _ ∙ rw (pc-end-is, count-is) b))) in
       rw (y, start-is, pc-end-is, count-is, told-value s start split pc e)
 
--- what an answer of `parse` tells: the bytes lie within the line
+-- what an answer of `parse` tells: the bytes lie within the line, and are numbers
 module _ (s : List ℕ) (pc at n : ℕ) (z : Found pc at n ≡ parsed s) where
   found-dump : isDump s ≡ true
   unfolding parsed
@@ -89,3 +89,10 @@ module _ (s : List ℕ) (pc at n : ℕ) (z : Found pc at n ≡ parsed s) where
       let a : at ≡ pcEnd s + 1 = cc found-is in
       let b : n ≡ (textEnd s - (pcEnd s + 1)) / 2 = cc found-is in
       omega (arith, ltb-true (pcEnd s) (textEnd s) (every-at _ 1 found-dump), end-within s)
+
+  pub found-bytes : areBytes s at n ≡ true
+  unfolding isDump
+  found-bytes =
+      let a : at ≡ pcEnd s + 1 = cc found-is in
+      let b : n ≡ byteCount s = cc found-is in
+      rw (a, b) (every-at _ 3 found-dump)

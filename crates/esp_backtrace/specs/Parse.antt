@@ -1,12 +1,13 @@
 -- A `STACKDUMP: ` line (document 01, "Collectors"): after the marker, trimmed, a pc and the stack's bytes, split at the first byte 32.
-use Prim.Native.Nat.{ℕ, zero, suc, _+_, _-_, _*_, _/_}
+use Prim.Native.Nat.{ℕ, zero, suc, _+_, _-_, _*_, _/_, _%_, _<_}
+use mathlib.Core.Path.{_≡_}
 use mathlib.Core.Bool.{Bool, cond}
 use mathlib.Core.List.{List, [], _∷_}
 use lib.Dec.{eqb, ltb}
 use lib.ListN.{length, getD}
 use Rattle.words.specs.Words.{all, every, firstFrom}
 use Rattle.chars.specs.declared.Class.the-variants.{Space}
-use Rattle.chars.specs.Classes.{isIn}
+use Rattle.chars.specs.Classes.{isIn, hexValue}
 use Rattle.words.specs.Text.{bytes}
 use Rattle.scan.specs.Places.{past, stands}
 use Rattle.esp_backtrace.specs.Radix.{number, isNumber, radix16}
@@ -24,6 +25,7 @@ trimmed s (suc n) = cond (isIn Space (getD s n 0)) (trimmed s n) (suc n)
 unfoldable pub textStart : List ℕ → ℕ
 textStart s = past Space s 11
 
+-- where the trimmed text ends
 unfoldable pub textEnd : List ℕ → ℕ
 textEnd s = trimmed s (length s)
 
@@ -65,6 +67,10 @@ worth Invalid = 0
 -- the byte whose two characters stand at p
 unfoldable pub byteAt : List ℕ → ℕ → ℕ
 byteAt s p = worth (radix16 s p (p + 2))
+
+-- the list has what each byte below n is worth in a pair: as a hex digit, and 0 as a `+`
+pub record PairValues (values : List ℕ) (n : ℕ) : Type 0 where
+  pub worth-of : (b : ℕ) → b < n → getD values b 0 ≡ hexValue b % 16
 
 -- the word of the four bytes from p on, low byte first
 unfoldable pub littleAt : List ℕ → ℕ → ℕ

@@ -18,13 +18,17 @@ digitsFrom s from = cond (eqb (getD s from 0) 43) (from + 1) from
 unfoldable pub number : List ℕ → ℕ → ℕ → ℕ
 number s from to = hexNumber s (digitsFrom s from) (to - digitsFrom s from)
 
+-- the n bytes from `at` on are hex digits
+abbrev pub areDigits : List ℕ → ℕ → ℕ → Bool
+areDigits s at n = all n (λ k. ltb (hexValue (getD s (at + k) 0)) 16)
+
 -- from `from` up to `to` stand an optional `+` and one or more hex digits, worth less than 2^32
 unfoldable pub isNumber : List ℕ → ℕ → ℕ → Bool
 isNumber s from to =
     let start : ℕ = digitsFrom s from in
     every
     (ltb start to
-    ∷ all (to - start) (λ k. ltb (hexValue (getD s (start + k) 0)) 16)
+    ∷ areDigits s start (to - start)
     ∷ ltb (number s from to) (2 ^ 32)
     ∷ [])
 

@@ -5,12 +5,14 @@ use memory::Pushed;
 use memory::StackMemory;
 use registers::Registers;
 ghost use mathlib.Core.Path.{_≡_};
-ghost use Prim.Native.Nat.{_+_, _*_, _≤_, _<_};
+ghost use mathlib.Core.Bool.{true};
+ghost use Prim.Native.Nat.{_+_, _*_, _/_, _%_, _≤_, _<_};
+ghost use lib.Dec.{ltb};
 ghost use lib.ListN.{length};
-ghost use Rattle.chars.specs.Classes.{classes};
+ghost use Rattle.chars.specs.Classes.{hexValue, classes};
 ghost use Rattle.memory.specs.Push.{storedFrom};
-ghost use Rattle.esp_backtrace.specs.Radix.{digitsFrom, radix16};
-ghost use Rattle.esp_backtrace.specs.Parse.{trimmed, blankFrom, areBytes, parsed, byteAt, littleAt};
+ghost use Rattle.esp_backtrace.specs.Radix.{digitsFrom, areDigits, isNumber, radix16};
+ghost use Rattle.esp_backtrace.specs.Parse.{trimmed, blankFrom, areBytes, parsed, byteAt, PairValues, littleAt};
 ghost use Rattle.esp_backtrace.specs.Feed.{spOf, registersOf, fed, segmentsFed, wordsFed};
 
 // The start of the line.
@@ -40,6 +42,7 @@ pub enum StackTop {
     Unknown,
 }
 
+// The stack pointer of a dump.
 pub struct Sp {
     pub value: u32,
     pub is_placeholder: bool,
@@ -128,11 +131,35 @@ fn from_str_radix(table: &[u8; 256], line: &[u8], from: usize, to: usize) -> Num
     Number::Is(value)
 }
 
-// Whether n byte pairs from `at` on are numbers.
+// Whether the byte is a hex digit. Joined by `&` and `|`, so that a loop over many bytes has no branches.
+fn is_digit(b: u8) -> bool
+    ensures { λ r. ⌜ r ≡ ltb (hexValue b) 16 ⌝ }
+{
+    (48 <= b) & (b < 58) | (65 <= b) & (b < 71) | (97 <= b) & (b < 103)
+}
+
+// Whether the n bytes from `at` on are hex digits. The loop has no way out but its end, so that it runs over many bytes at once.
+fn are_digits(line: &[u8], at: usize, n: usize) -> bool
+    requires { ⌜ at + n ≤ length (now line) ⌝ }
+    ensures { λ r. ⌜ r ≡ areDigits (now (line .entry)) at n ⌝ }
+{
+    let mut so_far = true;
+    let mut k = 0;
+    while k < n {
+        so_far = so_far & is_digit(line[at + k]);
+        k += 1;
+    }
+    so_far
+}
+
+// Whether n byte pairs from `at` on are numbers. As a rule they are digits alone; a pair that starts with `+` is read by itself.
 fn are_bytes(table: &[u8; 256], line: &[u8], at: usize, n: usize) -> bool
     requires { ⌜ (now table ≡ classes) × (at + 2 * n ≤ length (now line)) ⌝ }
     ensures { λ r. ⌜ r ≡ areBytes (now (line .entry)) at n ⌝ }
 {
+    if are_digits(line, at, 2 * n) {
+        return true;
+    }
     let mut k = 0;
     while k < n {
         let Number::Is(_) = from_str_radix(table, line, at + 2 * k, at + 2 * k + 2) else {
@@ -168,36 +195,57 @@ pub fn parse(table: &[u8; 256], line: &[u8]) -> Parsed
     Parsed::Found { pc, at, bytes }
 }
 
+// What each byte is worth in a pair: as a hex digit, and 0 as a `+`.
+fn pair_values(table: &[u8; 256]) -> [u8; 256]
+    requires { ⌜ now table ≡ classes ⌝ }
+    ensures { λ r. ⌜ PairValues r 256 ⌝ }
+{
+    let mut values = [0u8; 256];
+    let mut b = 0usize;
+    while b < 256 {
+        values[b] = (chars::hex_value(table, b as u8) % 16) as u8;
+        b += 1;
+    }
+    values
+}
+
+// What one byte is worth in a pair.
+fn pair_value(values: &[u8; 256], b: u8) -> u32
+    requires { ⌜ PairValues (now values) 256 ⌝ }
+    ensures { λ r. ⌜ r ≡ hexValue b % 16 ⌝ }
+{
+    values[b as usize] as u32
+}
+
 // The byte whose two characters stand at `at`.
-fn byte(table: &[u8; 256], line: &[u8], at: usize) -> u32
-    requires { ⌜ (now table ≡ classes) × (at + 2 ≤ length (now line)) ⌝ }
+fn byte(values: &[u8; 256], line: &[u8], at: usize) -> u32
+    requires { ⌜ PairValues (now values) 256 × (at + 2 ≤ length (now line)) × (isNumber (now line) at (at + 2) ≡ true) ⌝ }
     ensures { λ r. ⌜ (r ≡ byteAt (now (line .entry)) at) × (r < 256) ⌝ }
 {
-    let Number::Is(value) = from_str_radix(table, line, at, at + 2) else {
-        return 0;
-    };
-    value
+    pair_value(values, line[at]) * 16 + pair_value(values, line[at + 1])
 }
 
 // The word of the four bytes from `at` on.
-fn word(table: &[u8; 256], line: &[u8], at: usize) -> u32
-    requires { ⌜ (now table ≡ classes) × (at + 8 ≤ length (now line)) ⌝ }
+fn word(values: &[u8; 256], line: &[u8], at: usize) -> u32
+    requires { ⌜ PairValues (now values) 256 × (at + 8 ≤ length (now line)) × (areBytes (now line) at 4 ≡ true) ⌝ }
     ensures { λ r. ⌜ r ≡ littleAt (now (line .entry)) at ⌝ }
 {
-    byte(table, line, at)
-        + 0x100 * byte(table, line, at + 2)
-        + 0x1_0000 * byte(table, line, at + 4)
-        + 0x100_0000 * byte(table, line, at + 6)
+    byte(values, line, at)
+        + 0x100 * byte(values, line, at + 2)
+        + 0x1_0000 * byte(values, line, at + 4)
+        + 0x100_0000 * byte(values, line, at + 6)
 }
 
-// Stores the n words whose characters stand from `at` on.
-fn store_words(table: &[u8; 256], line: &[u8], at: usize, n: usize, words: &mut [u32])
-    requires { ⌜ (now table ≡ classes) × (at + 8 * n ≤ length (now line)) × (n ≤ length (now words)) ⌝ }
-    ensures { λ _. ⌜ now (words .exit) ≡ storedFrom n (λ j. littleAt (now (line .entry)) (at + 8 * j)) (now (words .entry)) 0 ⌝ }
+// Stores the whole words of the bytes whose characters stand from `at` on. They were read before, so that each is a number.
+fn store_words(table: &[u8; 256], line: &[u8], at: usize, bytes: usize, words: &mut [u32])
+    requires { ⌜ (now table ≡ classes) × (at + 2 * bytes ≤ length (now line)) × (areBytes (now line) at bytes ≡ true) × (bytes / 4 ≤ length (now words)) ⌝ }
+    ensures { λ _. ⌜ now (words .exit) ≡ storedFrom (bytes / 4) (λ j. littleAt (now (line .entry)) (at + 8 * j)) (now (words .entry)) 0 ⌝ }
 {
+    let values = pair_values(table);
+    let n = bytes / 4;
     let mut k = 0;
     while k < n {
-        words[k] = word(table, line, at + 8 * k);
+        words[k] = word(&values, line, at + 8 * k);
         k += 1;
     }
 }
@@ -258,6 +306,6 @@ pub fn feed(
     let Pushed::Grown(memory) = none.push(sp.value, bytes / 4, words.len(), segments) else {
         return Line::Full;
     };
-    store_words(table, line, at, bytes / 4, words);
+    store_words(table, line, at, bytes, words);
     Line::Complete(Dump { pc, sp, memory })
 }

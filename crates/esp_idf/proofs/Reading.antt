@@ -48,7 +48,7 @@ module _ (s : List ℕ) where
       ∙ sym (pairs-one m p c a e v q z))
 
   -- one pair is taken, and the others follow
-  pub pairs-more :
+  pairs-more :
       (p : ℕ) (c : EspIdf) (a e v n : ℕ) → At a e v n ≡ nextPair s p
       → pairsTaken (length s - n) s n (pairTaken (part s a e) v c) ≡ pairsTaken (length s - p) s p c
   pairs-more p c a e v n z =
@@ -59,6 +59,12 @@ module _ (s : List ℕ) where
       (pairs-enough (length s - p) (suc (length s - p - 1)) p c (omega arith) (omega arith)
       ∙ pairs-one (length s - p - 1) p c a e v n z
       ∙ pairs-enough (length s - p - 1) (length s - n) n rest (omega arith) (omega arith))
+
+  -- so it is where the collector has been changed as the pair says
+  pub pairs-turn :
+      (p : ℕ) (b c x : EspIdf) (a e v n : ℕ) → At a e v n ≡ nextPair s p → c ≡ pairTaken (part s a e) v b
+      → pairsTaken (length s - p) s p b ≡ x → pairsTaken (length s - n) s n c ≡ x
+  pairs-turn p b c x a e v n z q i = ap (λ (y : EspIdf). pairsTaken (length s - n) s n y) q ∙ pairs-more p b a e v n z ∙ i
 
 -- where the storing of the words of a stack line has come: k of them are stored, and the next stands at `at`
 pub record Storing (s words₀ : List ℕ) (to count : ℕ) (words : List ℕ) (at k : ℕ) : Type 0 where

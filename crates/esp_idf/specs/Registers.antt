@@ -30,6 +30,10 @@ worth Unknown = 0
 unfoldable pub registersThen : EspIdf → Registers
 registersThen c = cond (c .known) (c .registers) (newOf (worth (c .pc)))
 
+-- the collector with what pairs told it
+abbrev pub toldTo : EspIdf → Value → Bool → Registers → EspIdf
+toldTo c pc known s = record { state = c .state; pc = pc; known = known; registers = s; stack = c .stack }
+
 -- the collector knows these registers
 abbrev pub knowing : EspIdf → Registers → EspIdf
 knowing c s = record { state = c .state; pc = c .pc; known = true; registers = s; stack = c .stack }

@@ -14,7 +14,7 @@ ghost use lib.ListN.{length};
 ghost use Rattle.chars.specs.Classes.{classes};
 ghost use Rattle.memory.specs.Push.{storedFrom};
 ghost use Rattle.scan.specs.Stack.{wordCount, wordValue, afterWords, stackLine};
-ghost use Rattle.esp_idf.specs.Registers.{isPc, registersThen, knowing, at, pairTaken, pcTaken, registersRead, isRegisterLine, isBlank};
+ghost use Rattle.esp_idf.specs.Registers.{isPc, worth, toldTo, pcTaken, registersRead, isRegisterLine, isBlank};
 ghost use Rattle.esp_idf.specs.Feed.{idle, inState, startOf, registersFed, passed, completed, grownTo, stackFed, wordsGrown, segmentsGrown, fed, wordsFed, segmentsFed};
 
 // How far the collector is.
@@ -24,6 +24,7 @@ pub enum State {
     Stack,
 }
 
+// The collector: what it has read of a dump so far.
 pub struct EspIdf {
     pub state: State,
     pub pc: Value,
@@ -57,6 +58,16 @@ pub struct Fed {
 
 // The start of the line before the stack memory dump.
 const STACK_MEMORY_HEADER: [u8; 13] = *b"Stack memory:";
+
+// What the program counter is, 0 where it is not known.
+fn worth(pc: Value) -> u32
+    ensures { λ r. ⌜ r ≡ worth pc ⌝ }
+{
+    let Value::Known(value) = pc else {
+        return 0;
+    };
+    value
+}
 
 // Whether the name is that of the program counter.
 fn is_pc(name: &[u8]) -> bool
@@ -137,38 +148,6 @@ impl EspIdf {
         }
     }
 
-    // The collector with the registers known.
-    fn knowing(self, registers: Registers) -> EspIdf
-        ensures { λ r. ⌜ r ≡ knowing self registers ⌝ }
-    {
-        let state = self.state;
-        let pc = self.pc;
-        let stack = self.stack;
-        EspIdf {
-            state,
-            pc,
-            known: true,
-            registers,
-            stack,
-        }
-    }
-
-    // The collector with the program counter known.
-    fn at(self, pc: u32) -> EspIdf
-        ensures { λ r. ⌜ r ≡ at self pc ⌝ }
-    {
-        let state = self.state;
-        let registers = self.registers;
-        let stack = self.stack;
-        EspIdf {
-            state,
-            pc: Value::Known(pc),
-            known: self.known,
-            registers,
-            stack,
-        }
-    }
-
     // The collector with more of the lent lists taken.
     fn grown_to(self, stack: StackMemory) -> EspIdf
         ensures { λ r. ⌜ r ≡ grownTo self stack ⌝ }
@@ -196,52 +175,42 @@ impl EspIdf {
         EspIdf::new().in_state(State::Registers)
     }
 
-    // The registers, new ones where they are not known.
-    fn registers_then(self) -> Registers
-        ensures { λ r. ⌜ r ≡ registersThen self ⌝ }
+    // The collector with what the pairs of a line told: a known program counter makes the registers known, and is theirs.
+    fn told(self, pc: Value, known: bool, mut registers: Registers) -> EspIdf
+        ensures { λ r. ⌜ r ≡ pcTaken (toldTo self pc known registers) ⌝ }
     {
-        if self.known {
-            return self.registers;
+        let state = self.state;
+        let stack = self.stack;
+        let Value::Known(value) = pc else {
+            return EspIdf {
+                state,
+                pc,
+                known,
+                registers,
+                stack,
+            };
+        };
+        if !known {
+            registers = Registers::new(value);
         }
-        let known = self.pc;
-        let Value::Known(pc) = known else {
-            return Registers::new(0);
-        };
-        Registers::new(pc)
-    }
-
-    // Takes one pair: the program counter's, a register's, or another.
-    fn take_pair(self, name: &[u8], value: u32) -> EspIdf
-        ensures { λ r. ⌜ r ≡ pairTaken (now (name .entry)) value self ⌝ }
-    {
-        if is_pc(name) {
-            return self.at(value);
+        registers.pc = value;
+        EspIdf {
+            state,
+            pc,
+            known: true,
+            registers,
+            stack,
         }
-        let Value::Known(register) = Registers::named(name) else {
-            return self;
-        };
-        self.knowing(self.registers_then().set(register, value))
     }
 
-    // With the program counter known, the registers are, and have it.
-    fn take_pc(self) -> EspIdf
-        ensures { λ r. ⌜ r ≡ pcTaken self ⌝ }
-    {
-        let known = self.pc;
-        let Value::Known(pc) = known else {
-            return self;
-        };
-        let mut registers = self.registers_then();
-        registers.pc = pc;
-        self.knowing(registers)
-    }
-
-    // Takes the pairs of a line, one after the other.
+    // Takes the pairs of a line, one after the other. What they change is kept apart, and the collector is made once.
     fn parse_registers(self, table: &[u8; 256], line: &[u8]) -> EspIdf
         requires { ⌜ now table ≡ classes ⌝ }
         ensures { λ r. ⌜ r ≡ registersRead (now (line .entry)) self ⌝ }
     {
-        let mut taken = self;
+        let mut pc = self.pc;
+        let mut known = self.known;
+        let mut set = self.registers;
         let mut at = 0;
         loop {
             let Pair::At {
@@ -251,10 +220,21 @@ impl EspIdf {
                 next,
             } = scan::next_pair(table, line, at)
             else {
-                return taken.take_pc();
+                return self.told(pc, known, set);
             };
-            taken = taken.take_pair(&line[name_start..name_end], value);
             at = next;
+            if is_pc(&line[name_start..name_end]) {
+                pc = Value::Known(value);
+                continue;
+            }
+            let Value::Known(register) = Registers::named(&line[name_start..name_end]) else {
+                continue;
+            };
+            if !known {
+                set = Registers::new(worth(pc));
+                known = true;
+            }
+            set.mask = registers::write(set.mask, &mut set.values, register, value);
         }
     }
 

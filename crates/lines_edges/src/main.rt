@@ -25,6 +25,7 @@ fn print_first(list: &[u32]) {
     io::print_hex(1, words::wide(list[0]) as u64, 8);
 }
 
+// Prints what a finished dump holds.
 fn print_dump(registers: Registers, words: &[u32]) {
     io::write_all(1, b"dump pc=");
     io::print_hex(1, registers.pc as u64, 8);
@@ -37,6 +38,7 @@ fn print_dump(registers: Registers, words: &[u32]) {
     io::write_all(1, b"\n");
 }
 
+// Prints why a line was refused.
 fn print_refusal(refusal: Refusal) {
     io::write_all(1, b"refused=");
     io::print_decimal(1, refusal.number() as u64);

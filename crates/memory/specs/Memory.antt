@@ -14,6 +14,7 @@ pub record Memory : Type 0 where
   pub segments : List ℕ
   pub words : List ℕ
 
+-- both lists as one
 abbrev pub memoryOf : List ℕ → List ℕ → Memory
 memoryOf segments words = record { segments = segments; words = words }
 
@@ -51,6 +52,7 @@ wordFrom m addr (suc n) k =
 unfoldable pub wordAt : Memory → ℕ → Word
 wordAt m addr = cond (eqb (addr % 4) 0) (wordFrom m addr (length (m .segments) / 2) 0) Unknown
 
+-- a word that was read, if it was
 abbrev pub wordSeen : Word → Option ℕ
 wordSeen (Is w) = some w
 wordSeen Unknown = none

@@ -71,6 +71,7 @@ pub struct StackMemory {
     pub segments: usize,
 }
 
+// What pushing words answers: how much of the lists is taken then, or that they do not fit.
 pub enum Pushed {
     Grown(StackMemory),
     Full,

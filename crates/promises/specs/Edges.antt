@@ -53,12 +53,15 @@ pub record Edge : Type 0 where
 abbrev pub frame1 : List ℕ
 frame1 = 0x4200001c ∷ 0x3fc80000 ∷ 0 ∷ 0 ∷ []
 
+-- the one that it returns to, which lost its return address
 abbrev pub frame2 : List ℕ
 frame2 = 0x42000018 ∷ 0x3fc80000 ∷ 1 ∷ 0 ∷ []
 
+-- the one that is rebuilt
 abbrev pub frame3 : List ℕ
 frame3 = 0x4200000c ∷ 0x3fc80010 ∷ 1 ∷ 1 ∷ []
 
+-- the one whose saved return address was found
 abbrev pub frame4 : List ℕ
 frame4 = 0x42000028 ∷ 0x3fc80020 ∷ 1 ∷ 0 ∷ []
 

@@ -2,6 +2,7 @@
 ghost use mathlib.Core.Path.{_≡_};
 ghost use Rattle.refusal.specs.Refusal.{refusalNumber};
 
+// Why a call was refused, by document 01's names.
 pub enum Refusal {
     LineTooLong,
     NotAscii,

@@ -1,7 +1,7 @@
 // The registers by value: a mask of the known ones, and their values. Each operation hands them back.
 // Their names and the numbers of ra and sp belong to the type.
 ghost use mathlib.Core.Path.{_≡_};
-ghost use Rattle.registers.specs.Registers.{kept, newOf, setOf, clearOf, readBy, reads, valueOf, numberNamed, same, textOf};
+ghost use Rattle.registers.specs.Registers.{kept, remade, newOf, setOf, clearOf, readBy, reads, valueOf, numberNamed, same, textOf};
 
 // What a register reads, or which register is meant.
 pub enum Value {
@@ -9,6 +9,7 @@ pub enum Value {
     Unknown,
 }
 
+// The registers of a frame.
 pub struct Registers {
     // The program counter.
     pub pc: u32,
@@ -75,26 +76,22 @@ impl Registers {
         }
     }
 
+    // What register r reads.
     pub fn get(self, r: u32) -> Value
         ensures { λ w. ⌜ w ≡ valueOf (reads self r) ⌝ }
     {
         read(self.mask, &self.values, r)
     }
 
+    // Register r is known, unless it is 0 or no register.
     pub fn set(mut self, r: u32, v: u32) -> Registers
         ensures { λ s. ⌜ s ≡ setOf self r v ⌝ }
     {
-        if r == 0 {
-            return self;
-        }
-        if 32 <= r {
-            return self;
-        }
-        self.mask = self.mask | (1 << r);
-        self.values[r as usize] = v;
+        self.mask = write(self.mask, &mut self.values, r, v);
         self
     }
 
+    // Register r is known no more, unless it is 0.
     pub fn clear(mut self, r: u32) -> Registers
         ensures { λ s. ⌜ s ≡ clearOf self r ⌝ }
     {
@@ -161,6 +158,20 @@ pub fn read(mask: u32, values: &[u32; 32], r: u32) -> Value
     } else {
         Value::Unknown
     }
+}
+
+// Sets register r in a mask of the known ones and their values, and answers the mask: the values are lent, where `set` has the whole struct copied for it.
+pub fn write(mask: u32, values: &mut [u32; 32], r: u32, v: u32) -> u32
+    ensures { λ m. ⌜ ((s : Registers) → remade s m (now (values .exit)) ≡ setOf (remade s mask (now (values .entry))) r v) ⌝ }
+{
+    if r == 0 {
+        return mask;
+    }
+    if 32 <= r {
+        return mask;
+    }
+    values[r as usize] = v;
+    mask | (1 << r)
 }
 
 // Whether a called function must preserve the register. Joined by `&` and `|`, so that a loop over all registers has no branches.

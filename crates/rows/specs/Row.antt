@@ -85,6 +85,7 @@ unfoldable pub rowInTable : List ℕ → List ℕ → List ℕ → ℕ → ℕ �
 rowInTable functions rows rules pc first n =
     rowOf functions rows rules pc (lastHaving functions pc first 4 (started functions pc first n))
 
+-- a row, or where there is none the other
 abbrev pub orElse : Found → Found → Found
 orElse (Here r) other = Here r
 orElse Nothing other = other

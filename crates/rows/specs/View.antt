@@ -37,6 +37,7 @@ unfoldable pub ruleList : List ℕ → ℕ → ℕ → List Rule
 ruleList rules zero k = []
 ruleList rules (suc n) k = ruleAt rules k ∷ ruleList rules n (k + 1)
 
+-- an offset of sp, if there is one
 abbrev pub offsetSeen : SpOffset → Option ℕ
 offsetSeen (Is o) = some o
 offsetSeen Unknown = none
@@ -54,6 +55,7 @@ rowSeen rules r = record {
   spOff = offsetSeen (r .«sp_cfa_offset»);
 }
 
+-- a row with its rules, if one was found
 abbrev pub foundSeen : List ℕ → Found → Option View
 foundSeen rules (Here r) = some (rowSeen rules r)
 foundSeen rules Nothing = none

@@ -96,6 +96,7 @@ unfoldable pub linksIn : List ℕ → ℕ → List Link
 linksIn ws zero = []
 linksIn ws (suc n) = record { ra = getD ws (2 * n) 0; off = getD ws (2 * n + 1) 0 } ∷ linksIn ws n
 
+-- how a search ended, by the code's answer
 abbrev pub foundBy : Outcome → List Link → ℕ → Out (Option (List Link))
 foundBy Found ks l = ok (some ks) l
 foundBy Missing ks l = ok none l

@@ -20,6 +20,7 @@ pub record Frame : Type 0 where
   pub ret : ℕ
   pub recovered : ℕ
 
+-- a frame that was rebuilt, whose pc is a return address
 abbrev pub rebuilt : ℕ → ℕ → Frame
 rebuilt pc sp = record { pc = pc; sp = sp; ret = 1; recovered = 1 }
 
@@ -60,6 +61,7 @@ module _ (row : ℕ → Option View) where
         ]
       ]
 
+  -- the same, where a chain was found
   unfoldable pub meetsIf : ℕ → ℕ → ℕ → Option (List Link) → Option Fit
   meetsIf cfa word at none = none
   meetsIf cfa word at (some ks) = meets cfa word at ks

@@ -135,6 +135,7 @@ fn follow(
 }
 
 impl Searched {
+    // A search that found none.
     fn no_chain(outcome: Outcome, left: u32) -> Searched
         ensures { λ r. ⌜ r ≡ noChain outcome left ⌝ }
     {
@@ -333,6 +334,7 @@ fn refill(
 }
 
 impl Recovered {
+    // A scan that found none.
     fn no_caller(outcome: Outcome, left: u32) -> Recovered
         ensures { λ r. ⌜ r ≡ noCaller outcome left ⌝ }
     {

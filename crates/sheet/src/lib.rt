@@ -72,13 +72,16 @@ const SHAPES: [[u8; 13]; 13] = [
     *b"word=@\0\0\0\0\0\0\0",
 ];
 
-// The place in the order by kind: from, to, and where a kind leads; and how many lines a kind has at most.
+// By kind, the place in the order from which a line may come.
 const FIRST: [u32; 13] = [0, 1, 2, 3, 4, 5, 5, 5, 7, 8, 9, 5, 10];
 
+// The last place from which it may come.
 const LAST: [u32; 13] = [0, 1, 2, 3, 4, 5, 6, 9, 9, 9, 9, 10, 10];
 
+// The place after it.
 const NEXT: [u32; 13] = [1, 2, 3, 4, 5, 5, 6, 7, 8, 9, 9, 10, 10];
 
+// How many lines of a kind there may be.
 const CAPS: [u32; 13] = [1, 1, 1, 1, 1, 31, 32, 8, 256, 1024, 2048, 64, 16384];
 
 // What a decimal digit is worth, 10 for any other byte.

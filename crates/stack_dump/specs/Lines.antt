@@ -1,9 +1,9 @@
 -- What a line does to both collectors and to the four lent lists (document 01, "Collectors"; refusals 1, 2, 3).
 use Prim.Native.Nat.{ℕ}
-use mathlib.Core.Bool.{Bool, true, false, _&&_, cond}
+use mathlib.Core.Bool.{Bool, true, false, not, _&&_, _||_, cond}
 use mathlib.Core.List.{List, [], _∷_}
 use mathlib.Core.Option.{Option, none, some}
-use lib.Dec.{leb, ltb}
+use lib.Dec.{eqb, leb, ltb}
 use lib.ListN.{length, getD}
 use Rattle.words.specs.Words.{all}
 use Rattle.refusal.specs.Refusal.{firstRefusal}
@@ -17,6 +17,8 @@ use Rattle.esp_backtrace.specs.declared.Line.the-variants as backtrace
 use Rattle.esp_backtrace.specs.Parse.{parsed}
 use Rattle.esp_backtrace.specs.Feed as esp-backtrace
 use Rattle.esp_idf.specs.declared.EspIdf.{EspIdf}
+use Rattle.esp_idf.specs.declared.State.{State}
+use Rattle.esp_idf.specs.declared.State.the-variants as state
 use Rattle.esp_idf.specs.declared.Line.{Line as IdfLine}
 use Rattle.esp_idf.specs.declared.Line.the-variants as idf
 use Rattle.esp_idf.specs.declared.Fed.{Fed as IdfFed}
@@ -45,6 +47,17 @@ largerOf a b = cond (ltb a b) b a
 -- no byte is above 127
 unfoldable pub isAscii : List ℕ → Bool
 isAscii s = all (length s) (λ k. ltb (getD s k 0) 128)
+
+-- nothing is being collected
+abbrev pub isIdle : State → Bool
+isIdle state.Idle = true
+isIdle state.Registers = false
+isIdle state.Stack = false
+
+-- a lawful line that starts no dump, as its first byte tells: neither `C` nor `S`
+unfoldable pub isQuiet : State → List ℕ → Bool
+isQuiet x s =
+    not (((not (isIdle x) || eqb (getD s 0 0) 67) || eqb (getD s 0 0) 83) || ltb 65536 (length s)) && isAscii s
 
 -- what the STACKDUMP collector makes of the line
 abbrev pub byBacktrace : List ℕ → StackTop → Lent → BacktraceLine
@@ -76,9 +89,13 @@ refusalOf s top l c =
     ∷ record { holds = idfFits (byIdf s l c .line) && backtraceFits (byBacktrace s top l); otherwise = MemoryFull }
     ∷ [])
 
--- the answer that refuses: the collector as it was, and no dump
+-- the answer with the collector as it was, and no dump
+abbrev pub withoutDump : Line → EspIdf → Fed
+withoutDump x c = record { line = x; collector = c; registers = newOf 0; memory = nothingYet }
+
+-- the answer that refuses
 abbrev pub refusedBy : EspIdf → Refusal → Fed
-refusedBy c r = record { line = Refused r; collector = c; registers = newOf 0; memory = nothingYet }
+refusedBy c r = withoutDump (Refused r) c
 
 -- what the line is by the ESP-IDF collector; one that does not fit was refused before
 abbrev pub lineBy : IdfLine → Line

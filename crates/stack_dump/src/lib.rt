@@ -2,14 +2,15 @@
 // `feed` is the entry point. The words of a finished dump stay in the lent list that holds them; `dump_words` hands back that part.
 use esp_backtrace::StackTop;
 use esp_idf::EspIdf;
+use esp_idf::State;
 use memory::StackMemory;
 use refusal::Refusal;
 use registers::Registers;
 ghost use mathlib.Core.Path.{_≡_};
 ghost use Prim.Native.Nat.{_*_};
-ghost use lib.ListN.{take};
+ghost use lib.ListN.{take, getD};
 ghost use Rattle.esp_backtrace.specs.declared.Line.the-variants as backtrace;
-ghost use Rattle.stack_dump.specs.Lines.{lentOf, largerOf, isAscii, idfFits, refusedBy, lineBy, answered, fed, lentAfter, heldIn};
+ghost use Rattle.stack_dump.specs.Lines.{lentOf, largerOf, isAscii, isIdle, isQuiet, withoutDump, idfFits, refusedBy, lineBy, answered, fed, lentAfter, heldIn};
 
 // Which collector's lent lists hold a dump.
 pub enum Holder {
@@ -54,12 +55,12 @@ fn is_ascii(line: &[u8]) -> bool
     highest < 128
 }
 
-// The answer that refuses: the collector as it was, and no dump.
-fn refused(collector: EspIdf, refusal: Refusal) -> Fed
-    ensures { λ r. ⌜ r ≡ refusedBy collector refusal ⌝ }
+// The answer with the collector as it was, and no dump.
+fn without_dump(line: Line, collector: EspIdf) -> Fed
+    ensures { λ r. ⌜ r ≡ withoutDump line collector ⌝ }
 {
     Fed {
-        line: Line::Refused(refusal),
+        line,
         collector,
         registers: Registers::new(0),
         memory: StackMemory {
@@ -67,6 +68,45 @@ fn refused(collector: EspIdf, refusal: Refusal) -> Fed
             segments: 0,
         },
     }
+}
+
+// The answer that refuses.
+fn refused(collector: EspIdf, refusal: Refusal) -> Fed
+    ensures { λ r. ⌜ r ≡ refusedBy collector refusal ⌝ }
+{
+    without_dump(Line::Refused(refusal), collector)
+}
+
+// Whether nothing is being collected.
+fn is_idle(state: State) -> bool
+    ensures { λ r. ⌜ r ≡ isIdle state ⌝ }
+{
+    match state {
+        State::Idle => true,
+        State::Registers => false,
+        State::Stack => false,
+    }
+}
+
+// The first byte, 0 where there is none.
+fn first_byte(line: &[u8]) -> u8
+    ensures { λ r. ⌜ r ≡ getD (now (line .entry)) 0 0 ⌝ }
+{
+    if line.len() == 0 {
+        return 0;
+    }
+    line[0]
+}
+
+// Whether a lawful line starts no dump, as its first byte tells: neither `C`, as a header's, nor `S`, as that of a STACKDUMP line.
+fn is_quiet(state: State, line: &[u8]) -> bool
+    ensures { λ r. ⌜ r ≡ isQuiet state (now (line .entry)) ⌝ }
+{
+    let first = first_byte(line);
+    if !is_idle(state) | (first == 67) | (first == 83) | (65536 < line.len()) {
+        return false;
+    }
+    is_ascii(line)
 }
 
 // Whether the ESP-IDF collector's lists hold what the line needs.
@@ -174,9 +214,9 @@ pub fn dump_segments<'a>(
     }
 }
 
-// Takes a line. The lists of the ESP-IDF collector are changed by a stack line alone, those of the other by a STACKDUMP line, and no line is
-// both: so the second to be asked can still refuse.
-pub fn feed(
+// Asks both collectors. The lists of the ESP-IDF collector are changed by a stack line alone, those of the other by a STACKDUMP line, and no
+// line is both: so the second to be asked can still refuse.
+fn ask_both(
     collector: EspIdf,
     line: &[u8],
     top: StackTop,
@@ -205,4 +245,32 @@ pub fn feed(
         esp_backtrace::Line::Other => by_idf(second),
         esp_backtrace::Line::Full => refused(collector, Refusal::MemoryFull),
     }
+}
+
+// Takes a line. As a rule it is no part of a dump, and the collector goes back as it came.
+pub fn feed(
+    collector: EspIdf,
+    line: &[u8],
+    top: StackTop,
+    idf_words: &mut [u32],
+    idf_segments: &mut [u32],
+    sd_words: &mut [u32],
+    sd_segments: &mut [u32],
+) -> Fed
+    ensures { λ r. ⌜ r ≡ fed (now (line .entry)) top (lentOf (now («idf_words» .entry)) (now («idf_segments» .entry)) (now («sd_words» .entry)) (now («sd_segments» .entry))) collector ⌝ }
+    ensures { λ r. ⌜ lentOf (now («idf_words» .exit)) (now («idf_segments» .exit)) (now («sd_words» .exit)) (now («sd_segments» .exit)) ≡ lentAfter (now (line .entry)) top (lentOf (now («idf_words» .entry)) (now («idf_segments» .entry)) (now («sd_words» .entry)) (now («sd_segments» .entry))) collector ⌝ }
+{
+    let state = collector.state;
+    if is_quiet(state, line) {
+        return without_dump(Line::Other, collector);
+    }
+    ask_both(
+        collector,
+        line,
+        top,
+        idf_words,
+        idf_segments,
+        sd_words,
+        sd_segments,
+    )
 }

@@ -131,6 +131,7 @@ module _ (read : ℕ → Option ℕ) where
   rulesMade f cfa [] = false
   rulesMade f cfa (r ∷ rs) = (eqb (r .reg) 0 && lacks f cfa r) || rulesMade f cfa rs
 
+  -- whether the step makes do, from the frame address on
   abbrev pub madeFrom : Registers → View → FrameAddress → Bool
   madeFrom s r (nowhere stop) = false
   madeFrom s r (at fallback cfa) = (fallback && not (s .«sp_is_placeholder»)) || rulesMade (reads s) cfa (r .rules)

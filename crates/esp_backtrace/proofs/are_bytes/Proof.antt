@@ -5,6 +5,7 @@ use mathlib.Core.Bool.{true}
 use Rattle.words.proofs.Laws.{all-none, all-more, all-false, all-end}
 use Rattle.esp_backtrace.specs.Parse.{areBytes}
 use Rattle.esp_backtrace.proofs.Numbers.{told-invalid, told-number}
+use Rattle.esp_backtrace.proofs.Pairs.{digits-numbers}
 use borrow.Author.Needs.{needs}
 use native.Mathlib.Omega.{arith}
 use Rattle.esp_backtrace.proofs.are_bytes.Statement.{statement}
@@ -15,6 +16,15 @@ Inv-loop table line at n k₀ k = (areBytes line at k ≡ true) × (k ≤ n)
 
 abbrev μ-loop : tie.MeasureT-loop
 μ-loop table line at n k₀ k = n - k
+
+mul-are-digits : tie.Need-mul-are-digits Inv-loop μ-loop
+mul-are-digits c = search needs
+
+are-digits-requires : tie.Need-are-digits-requires Inv-loop μ-loop
+are-digits-requires c κs = search needs
+
+returns : tie.Need-returns Inv-loop μ-loop
+returns c = sym (digits-numbers _ _ _ (sym (c .before .are-digits .ensures) ∙ c .if1 .taken))
 
 loop-holds : tie.Need-loop-holds Inv-loop μ-loop
 unfolding areBytes
@@ -44,9 +54,9 @@ enum-told c = search needs
 enum-told-2 : tie.Need-enum-told-2 Inv-loop μ-loop
 enum-told-2 c = search needs
 
-returns : tie.Need-returns Inv-loop μ-loop
+returns-2 : tie.Need-returns-2 Inv-loop μ-loop
 unfolding areBytes
-returns c = sym (all-false _ _ (c .before .before .before .before .loop .k) (c .before .before .before .loop-test .taken) (told-invalid _ _ _ (sym (c .enum-told2 .given .1) ∙ c .before .before .from-str-radix .ensures)))
+returns-2 c = sym (all-false _ _ (c .before .before .before .before .loop .k) (c .before .before .before .loop-test .taken) (told-invalid _ _ _ (sym (c .enum-told2 .given .1) ∙ c .before .before .from-str-radix .ensures)))
 
 add-k : tie.Need-add-k Inv-loop μ-loop
 add-k c = search needs
@@ -58,9 +68,9 @@ loop-again : tie.Need-loop-again Inv-loop μ-loop
 unfolding areBytes
 loop-again c = (all-more _ _ (c .before .before .before .before .loop .inv .0) (told-number _ _ _ _ (sym (c .enum-told .given .1) ∙ c .before .before .from-str-radix .ensures)), omega arith)
 
-returns-2 : tie.Need-returns-2 Inv-loop μ-loop
+returns-3 : tie.Need-returns-3 Inv-loop μ-loop
 unfolding areBytes
-returns-2 c = sym (all-end _ (c .before .loop .k) _ (c .before .loop .inv .0) (c .before .loop .inv .1) (c .loop-test .left))
+returns-3 c = sym (all-end _ (c .before .loop .k) _ (c .before .loop .inv .0) (c .before .loop .inv .1) (c .loop-test .left))
 
 pub are-bytes-spec : {M : Type 1} → statement M
 are-bytes-spec =
@@ -68,6 +78,9 @@ are-bytes-spec =
     (tie.spec
     Inv-loop
     μ-loop
+    mul-are-digits
+    are-digits-requires
+    returns
     loop-holds
     mul-from-str-radix
     add-from-str-radix
@@ -77,8 +90,8 @@ are-bytes-spec =
     from-str-radix-requires
     enum-told
     enum-told-2
-    returns
+    returns-2
     add-k
     loop-less
     loop-again
-    returns-2)
+    returns-3)

@@ -1,40 +1,44 @@
 -- `esp_backtrace::byte` meets its contract. Assumes nothing.
-use mathlib.Core.Path.{sym, ap, _∙_}
-use Rattle.esp_backtrace.specs.Parse.{worth, byteAt}
-use Rattle.esp_backtrace.proofs.Numbers.{told-number, told-value, byte-small}
-use borrow.Author.Needs.{needs}
 use native.Mathlib.Omega.{arith}
+use Rattle.esp_backtrace.proofs.Pairs.{pair-worth}
+use borrow.Author.Needs.{needs}
 use Rattle.esp_backtrace.proofs.byte.Statement.{statement}
 use Rattle.esp_backtrace.proofs.byte.Tie as tie
 
-add-from-str-radix : tie.Need-add-from-str-radix
-add-from-str-radix c = search needs
+shared-slice-read-pair-value : tie.Need-shared-slice-read-pair-value
+shared-slice-read-pair-value c = search needs
 
-from-str-radix-requires : tie.Need-from-str-radix-requires
-from-str-radix-requires c κs = search needs
+pair-value-requires : tie.Need-pair-value-requires
+pair-value-requires c κs = search needs
 
-enum-known-value : tie.Need-enum-known-value
-enum-known-value c = search needs
+mul-result : tie.Need-mul-result
+mul-result c = search needs
 
-enum-told : tie.Need-enum-told
-enum-told c = search needs
+add-pair-value : tie.Need-add-pair-value
+add-pair-value c = search needs
+
+shared-slice-read-pair-value-2 : tie.Need-shared-slice-read-pair-value-2
+shared-slice-read-pair-value-2 c = search needs
+
+pair-value-requires-2 : tie.Need-pair-value-requires-2
+pair-value-requires-2 c κs = search needs
+
+add-result : tie.Need-add-result
+add-result c = search needs
 
 returns : tie.Need-returns
-unfolding byteAt
-returns c = (ap worth (sym (c .enum-told .given .1) ∙ c .before .before .from-str-radix .ensures), omega arith)
-
-returns-2 : tie.Need-returns-2
-unfolding byteAt
-returns-2 c = let z = sym (c .before .value .given .1) ∙ c .before .before .before .from-str-radix .ensures in
-    (ap worth z, rw (told-value _ _ _ _ z) (byte-small _ _ (told-number _ _ _ _ z)))
+returns c = let s = c .before .before .before .before .before in
+    (rw (c .before .before .pair-value .ensures, c .pair-value2 .ensures) (pair-worth (s .args .line .now) (s .args .at) (s .pre .2)), omega (arith, c .before .before .pair-value .ensures, c .pair-value2 .ensures))
 
 pub byte-spec : {M : Type 1} → statement M
 byte-spec =
     tie.close
     (tie.spec
-    add-from-str-radix
-    from-str-radix-requires
-    enum-known-value
-    enum-told
-    returns
-    returns-2)
+    shared-slice-read-pair-value
+    pair-value-requires
+    mul-result
+    add-pair-value
+    shared-slice-read-pair-value-2
+    pair-value-requires-2
+    add-result
+    returns)

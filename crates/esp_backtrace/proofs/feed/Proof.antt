@@ -2,7 +2,7 @@
 use mathlib.Core.Path.{sym, _∙_}
 use Rattle.memory.proofs.Ways.{fit-room, told-full, told-grown}
 use Rattle.esp_backtrace.specs.Feed.{fed, wordsFed, segmentsFed}
-use Rattle.esp_backtrace.proofs.Dumps.{found-within}
+use Rattle.esp_backtrace.proofs.Dumps.{found-within, found-bytes}
 use borrow.Author.Needs.{needs}
 use native.Mathlib.Omega.{arith}
 use Rattle.esp_backtrace.proofs.feed.Statement.{statement}
@@ -45,7 +45,7 @@ returns-2 c = let z = sym (c .before .before .before .before .before .before .be
 store-words-requires : tie.Need-store-words-requires
 store-words-requires c κs = let z = sym (c .before .before .before .before .before .before .before .before .before .before .pc .given .1) ∙ c .before .before .before .before .before .before .before .before .before .before .before .before .parse .ensures in
     let p = sym (c .before .before .memory .given .1) ∙ c .before .before .before .before .before .before .push .ensures .0 in
-    (c .before .before .before .before .before .before .before .before .before .before .before .before .before .before .before .before .pre, omega (arith, found-within _ _ _ _ z), omega (arith, fit-room _ _ _ _ _ (told-grown _ _ _ _ _ _ p)))
+    (c .before .before .before .before .before .before .before .before .before .before .before .before .before .before .before .before .pre, found-within _ _ _ _ z, found-bytes _ _ _ _ z, omega (arith, fit-room _ _ _ _ _ (told-grown _ _ _ _ _ _ p)))
 
 same-length-2 : tie.Need-same-length-2
 same-length-2 c = search needs

@@ -3,11 +3,11 @@ use borrow.Author.Needs.{needs}
 use Rattle.stack_dump.proofs.refused.Statement.{statement}
 use Rattle.stack_dump.proofs.refused.Tie as tie
 
-new-requires : tie.Need-new-requires
-new-requires c κs = search needs
+without-dump-requires : tie.Need-without-dump-requires
+without-dump-requires c κs = search needs
 
 returns : tie.Need-returns
-returns c = rw (c .new .ensures)
+returns c = c .without-dump .ensures
 
 pub refused-spec : {M : Type 1} → statement M
-refused-spec = tie.close (tie.spec new-requires returns)
+refused-spec = tie.close (tie.spec without-dump-requires returns)
