@@ -3,9 +3,12 @@
 use code::Insn;
 ghost use mathlib.Core.Path.{_≡_};
 ghost use mathlib.Core.Bool.{true};
+ghost use Prim.Native.Nat.{_+_, _^_, _≤_, _<_};
+ghost use lib.ListN.{length};
 ghost use Rattle.code.specs.Code.{codeOf, codeIsGood};
 ghost use Rattle.calls.specs.Encoding.{isJal, isJalr, isAuipc, isCJal, isCJalr};
 ghost use Rattle.calls.specs.Call.{farCall, wideCall, shortCall, callBefore};
+ghost use Rattle.calls.specs.Passing.{mayCall, quietSize, least as leastOf, passed, passedOver};
 ghost use Rattle.calls.specs.Listing.{sizeAt, sizeOf, firstThen, listingBy, listingOf, calls};
 
 // A call instruction, with its target unless it goes through a register.
@@ -25,6 +28,12 @@ pub enum Size {
 pub enum First {
     At(u32),
     NotYet,
+}
+
+// Where a listing goes on, and the allowance left there.
+pub struct Spot {
+    pub pc: u32,
+    pub left: u32,
 }
 
 // A function's listing: the first call straight to the target, if there is one, and the allowance left.
@@ -161,6 +170,84 @@ pub fn size_at(sections: &[u32], code: &[u8], pc: u32) -> Size
     }
 }
 
+// Whether two halfwords before a return address may be a call.
+fn may_call(first: u32, last: u32) -> bool
+    ensures { λ r. ⌜ r ≡ mayCall first last ⌝ }
+{
+    (first % 0x80 == 0x6f)
+        | (first % 0x80 == 0x67)
+        | (is_c_jal(last) | ((last % 0x80 == 2) & (last / 0x1000 % 0x10 == 9)))
+}
+
+// The size of the instruction at p, or 0 where it may be a call.
+fn quiet_size(code: &[u8], p: usize) -> u32
+    requires { ⌜ (2 ≤ p) × (p + 4 ≤ length (now code)) ⌝ }
+    ensures { λ r. ⌜ (r ≡ quietSize (now (code .entry)) p) × (r ≤ 4) ⌝ }
+{
+    let half = code::little2(code, p);
+    if half % 4 == 3 {
+        if may_call(half, code::little2(code, p + 2)) {
+            0
+        } else {
+            4
+        }
+    } else if may_call(code::little2(code, p - 2), half) {
+        0
+    } else {
+        2
+    }
+}
+
+// Passes over the instructions from d on, before stop, that are surely no calls: distances from place on in the slice.
+fn pass(code: &[u8], place: usize, from: u32, stop: u32, allowance: u32) -> Spot
+    requires { ⌜ (2 ≤ from) × (stop + 4 ≤ 2 ^ 32) × (place + stop + 4 ≤ length (now code)) ⌝ }
+    ensures { λ r. ⌜ r ≡ passed (now (code .entry)) place stop allowance from ⌝ }
+{
+    let mut d = from;
+    let mut left = allowance;
+    while d < stop {
+        if left == 0 {
+            return Spot { pc: d, left };
+        }
+        let n = quiet_size(code, place + words::wide(d));
+        if n == 0 {
+            return Spot { pc: d, left };
+        }
+        d += n;
+        left -= 1;
+    }
+    Spot { pc: d, left }
+}
+
+// The smaller of two numbers.
+fn least(a: u32, b: u32) -> u32
+    ensures { λ r. ⌜ r ≡ leastOf a b ⌝ }
+{
+    if a < b { a } else { b }
+}
+
+// Where a listing from start to end goes on, over instructions that are surely no calls: as many as one section shows.
+pub fn pass_over(sections: &[u32], code: &[u8], start: u32, end: u32, allowance: u32) -> Spot
+    requires { ⌜ codeIsGood (codeOf (now sections) (now code)) ≡ true ⌝ }
+    ensures { λ r. ⌜ r ≡ passedOver (codeOf (now (sections .entry)) (now (code .entry))) start end allowance ⌝ }
+{
+    let window = code::window_at(sections, start);
+    let base = window.base;
+    let size = window.size;
+    if (base as u64 + 2 <= start as u64) & (start < end) & (4 <= size) {
+        let stop = least(end - base, size - 4);
+        let on = pass(code, window.place, start - base, stop, allowance);
+        return Spot {
+            pc: std::num::wrapping_add_u32(base, on.pc),
+            left: on.left,
+        };
+    }
+    Spot {
+        pc: start,
+        left: allowance,
+    }
+}
+
 impl First {
     // After the call that ends before ra.
     fn then(self, call: Call, ra: u32, target: u32) -> First
@@ -202,6 +289,12 @@ pub fn list_calls(
     let mut left = allowance;
     let mut first = First::NotYet;
     while pc < end {
+        let on = pass_over(sections, code, pc, end, left);
+        pc = on.pc;
+        left = on.left;
+        if end <= pc {
+            return first.listing(left);
+        }
         let Size::Is(n) = size_at(sections, code, pc) else {
             return first.listing(left);
         };

@@ -1,12 +1,13 @@
 -- The lent code: sections as triples (address, byte offset, length) over one slice of bytes, and the words that it holds.
 use Prim.Native.Nat.{ℕ, zero, suc, _+_, _-_, _*_, _/_, _%_, _^_}
-use mathlib.Core.Bool.{Bool, cond, _&&_}
+use mathlib.Core.Bool.{Bool, cond, _&&_, _||_}
 use mathlib.Core.List.{List, [], _∷_}
 use lib.ListN.{length, getD}
 use lib.Dec.{ltb, leb, eqb}
 use Rattle.words.specs.Words.{field, all, every, firstFrom}
 use Rattle.code.specs.declared.Place.{Place}
 use Rattle.code.specs.declared.Place.the-variants.{At, Nowhere}
+use Rattle.code.specs.declared.Window.{Window}
 use Rattle.code.specs.declared.Insn.{Insn}
 use Rattle.code.specs.declared.Insn.the-variants.{Is, Unread}
 
@@ -66,3 +67,23 @@ readAt n bytes Nowhere = Unread
 -- the n bytes of code at addr, as a number
 unfoldable pub insnAt : ℕ → Code → ℕ → Insn
 insnAt n c addr = readAt n (c .bytes) (placeOf (c .sections) n addr)
+
+-- sections k and j have no byte in common
+unfoldable pub areApart : List ℕ → ℕ → ℕ → Bool
+areApart sections k j =
+    leb (address sections j + size sections j) (address sections k) || leb (address sections k + size sections k) (address sections j)
+
+-- the n bytes at address b stand in the slice from p on
+abbrev pub windowOn : ℕ → ℕ → ℕ → Window
+windowOn b p n = record { base = b; place = p; size = n }
+
+-- section k, where no earlier one has a byte of it, else no bytes
+abbrev pub windowOf : List ℕ → ℕ → Window
+windowOf sections k =
+    cond (all k (areApart sections k)) (windowOn (address sections k) (offset sections k) (size sections k)) (windowOn 0 0 0)
+
+-- a part of the slice where the 2 bytes at addr stand and each byte beside them is read, or one of no bytes
+unfoldable pub windowAt : List ℕ → ℕ → Window
+windowAt sections addr =
+    let k : ℕ = firstFrom (holdsBytes sections 2 addr) (length sections / 3) 0 in
+    cond (ltb k (length sections / 3)) (windowOf sections k) (windowOn 0 0 0)

@@ -4,13 +4,20 @@ ghost use mathlib.Core.Path.{_≡_};
 ghost use mathlib.Core.Bool.{true};
 ghost use Prim.Native.Nat.{_+_, _*_, _/_, _≤_, _<_, _^_};
 ghost use lib.ListN.{length, getD};
-ghost use Rattle.words.specs.Words.{firstFrom};
-ghost use Rattle.code.specs.Code.{codeOf, codeIsGood, holdsBytes, placeOf, little, insnAt};
+ghost use Rattle.words.specs.Words.{all, firstFrom};
+ghost use Rattle.code.specs.Code.{codeOf, codeIsGood, holdsBytes, placeOf, little, insnAt, areApart, windowAt};
 
 // Where in the slice some bytes stand.
 pub enum Place {
     At(usize),
     Nowhere,
+}
+
+// A part of the slice: the size bytes at address base stand there from place on. One of no bytes shows nothing.
+pub struct Window {
+    pub base: u32,
+    pub place: usize,
+    pub size: u32,
 }
 
 // What a read of code answers.
@@ -65,6 +72,54 @@ fn first_section(sections: &[u32], n: u32, addr: u32) -> usize
     k
 }
 
+// Whether sections k and j have no byte in common.
+fn apart(sections: &[u32], k: usize, j: usize) -> bool
+    requires { ⌜ (3 * k + 2 < length (now sections)) × (3 * j + 2 < length (now sections)) ⌝ }
+    ensures { λ r. ⌜ r ≡ areApart (now (sections .entry)) k j ⌝ }
+{
+    let start = words::wide(words::word(sections, 3, k, 0));
+    let end = start + words::wide(words::word(sections, 3, k, 2));
+    let other = words::wide(words::word(sections, 3, j, 0));
+    let other_end = other + words::wide(words::word(sections, 3, j, 2));
+    (other_end <= start) | (end <= other)
+}
+
+// Whether section k has no byte in common with an earlier one.
+fn stands_alone(sections: &[u32], k: usize) -> bool
+    requires { ⌜ 3 * k + 2 < length (now sections) ⌝ }
+    ensures { λ r. ⌜ r ≡ all k (areApart (now (sections .entry)) k) ⌝ }
+{
+    let mut j: usize = 0;
+    while j < k {
+        if !apart(sections, k, j) {
+            return false;
+        }
+        j += 1;
+    }
+    true
+}
+
+// The section of the 2 bytes at addr, where no earlier one has a byte of it: all its bytes are read from there.
+pub fn window_at(sections: &[u32], addr: u32) -> Window
+    ensures { λ r. ⌜ r ≡ windowAt (now (sections .entry)) addr ⌝ }
+{
+    let k = first_section(sections, 2, addr);
+    if k < sections.len() / 3 {
+        if stands_alone(sections, k) {
+            return Window {
+                base: words::word(sections, 3, k, 0),
+                place: words::wide(words::word(sections, 3, k, 1)),
+                size: words::word(sections, 3, k, 2),
+            };
+        }
+    }
+    Window {
+        base: 0,
+        place: 0,
+        size: 0,
+    }
+}
+
 // Where n bytes at addr stand.
 fn find(sections: &[u32], n: u32, addr: u32) -> Place
     ensures { λ r. ⌜ r ≡ placeOf (now (sections .entry)) n addr ⌝ }
@@ -87,7 +142,7 @@ fn byte(code: &[u8], i: usize) -> u32
 }
 
 // The number that the 2 bytes from p on stand for.
-fn little2(code: &[u8], p: usize) -> u32
+pub fn little2(code: &[u8], p: usize) -> u32
     requires { ⌜ p + 2 ≤ length (now code) ⌝ }
     ensures { λ r. ⌜ (r ≡ little 2 (now (code .entry)) p) × (r < 2 ^ 16) ⌝ }
 {

@@ -27,7 +27,7 @@ module _ (s : List ℕ) where
   unfolding isDump
   no-marker e = no-dump (every-false _ 0 e)
 
-  pub end-within : textEnd s ≤ length s
+  end-within : textEnd s ≤ length s
   unfolding textEnd
   end-within = trim-upto s (length s)
 

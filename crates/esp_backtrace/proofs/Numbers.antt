@@ -4,13 +4,13 @@ use mathlib.Core.Path.{_≡_, sym, _∙_}
 use mathlib.Core.Bool.{true, false}
 use mathlib.Core.List.{List}
 use mathlib.Core.Logic.{⊎-elim}
-use native.Mathlib.Nat.{eq-or-lt-of-le, le-of-suc-le-suc, pow-le-pow-right, pow-suc}
+use native.Mathlib.Nat.{eq-or-lt-of-le, le-of-suc-le-suc, pow-suc}
 use native.Mathlib.Omega.{arith}
-use lib.Dec.{eqb, ltb}
+use lib.Dec.{ltb}
 use lib.ListN.{length, getD, List·getD-eq-default}
-use borrow.Author.Tests.{ltb-true, eqb-true, eqb-false, lt-ltb, le-ltb, eq-eqb, ne-eqb}
+use borrow.Author.Tests.{ltb-true, lt-ltb, le-ltb, eq-eqb, ne-eqb}
 use Rattle.words.specs.Words.{all}
-use Rattle.words.proofs.Laws.{all-none, all-more, all-false, and-left, and-right, every-at, every-false, every-skip, every-last}
+use Rattle.words.proofs.Laws.{all-none, all-more, all-false, and-left, and-right, every-false, every-skip, every-last}
 use Rattle.words.proofs.Cases.{by-bool}
 use Rattle.chars.specs.Classes.{hexValue}
 use Rattle.scan.specs.Places.{hexNumber}
@@ -47,17 +47,14 @@ module _ (s : List ℕ) (from : ℕ) where
   unfolding digitsFrom
   no-plus e = rw (ne-eqb _ _ e)
 
-  digits-near : from ≤ digitsFrom s from
-  digits-near = by-bool (eqb (getD s from 0) 43) (λ y. omega (arith, after-plus (eqb-true _ _ y))) (λ y. omega (arith, no-plus (eqb-false _ _ y)))
-
 no-number : (s : List ℕ) (from to : ℕ) → isNumber s from to ≡ false → Invalid ≡ radix16 s from to
 unfolding radix16
 no-number s from to e = rw e
 
 -- where the reading of the digits from `start` up to `to` has come: to i, with the value of those before it
 pub record Reading (s : List ℕ) (start to i value : ℕ) : Type 0 where
-  pub number-is : value ≡ hexNumber s start (i - start)
-  pub valid : all (i - start) (λ k. ltb (hexValue (getD s (start + k) 0)) 16) ≡ true
+  number-is : value ≡ hexNumber s start (i - start)
+  valid : all (i - start) (λ k. ltb (hexValue (getD s (start + k) 0)) 16) ≡ true
   pub from : start ≤ i
   pub upto : i ≤ to
   pub small : value < 2 ^ 32
@@ -129,11 +126,3 @@ module _ (s : List ℕ) (from to : ℕ) where
     pub told-value : v ≡ number s from to
     unfolding radix16
     told-value = let w : Is v ≡ Is (number s from to) = rw told-number at z in cc
-
--- two characters make a byte
-pub byte-small : (s : List ℕ) (p : ℕ) → isNumber s p (p + 2) ≡ true → number s p (p + 2) < 256
-unfolding isNumber number
-byte-small s p e =
-    let b : hexNumber s (digitsFrom s p) (p + 2 - digitsFrom s p) < 16 ^ (p + 2 - digitsFrom s p) = number-below s (digitsFrom s p) _ (every-at _ 1 e) in
-    let w : 16 ^ (p + 2 - digitsFrom s p) ≤ 256 = pow-le-pow-right (omega arith) {j = 2} (omega (arith, digits-near s p)) in
-    omega (arith, b, w)

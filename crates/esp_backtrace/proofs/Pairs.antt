@@ -56,13 +56,13 @@ plus-nothing = refl
 
 -- a pair by its second digit and its first byte
 module _ (s : List ℕ) (p : ℕ) (low : hexValue (getD s (p + 1) 0) < 16) where
-  pub plain-pair : hexValue (getD s p 0) < 16 → Is (hexValue (getD s p 0) * 16 + hexValue (getD s (p + 1) 0)) ≡ radix16 s p (p + 2)
+  plain-pair : hexValue (getD s p 0) < 16 → Is (hexValue (getD s p 0) * 16 + hexValue (getD s (p + 1) 0)) ≡ radix16 s p (p + 2)
   plain-pair high =
       let first = reading-more s p (p + 2) (reading-none s p (p + 2) (omega arith)) (omega arith) _ high refl (omega arith) in
       let second = reading-more s p (p + 2) first (omega arith) _ low refl (omega arith) in
       rw zero-add at (a-number s p (p + 2) second p (no-plus s p (λ e. no-digit (getD s p 0) e high)) (omega arith) (omega arith))
 
-  pub plus-pair : getD s p 0 ≡ 43 → Is (hexValue (getD s (p + 1) 0)) ≡ radix16 s p (p + 2)
+  plus-pair : getD s p 0 ≡ 43 → Is (hexValue (getD s (p + 1) 0)) ≡ radix16 s p (p + 2)
   plus-pair e =
       let first = reading-more s (p + 1) (p + 2) (reading-none s (p + 1) (p + 2) (omega arith)) (omega arith) _ low refl (omega arith) in
       rw zero-add at (a-number s (p + 1) (p + 2) first p (after-plus s p e) (omega arith) (omega arith))

@@ -296,8 +296,7 @@ fn main() {
                 lines += 1;
             }
             Record::NoMore => {
-                replaying::say_count(b"lines", lines);
-                replaying::say_count(b"different", different);
+                replaying::say_sum(b"lines", lines, different);
                 return;
             }
         }

@@ -90,7 +90,9 @@ fn say_kind(kind: usize, texts: u64) {
     io::print_decimal(1, (kind / 10) as u64);
     io::write_all(1, b" frames ");
     io::print_decimal(1, (kind % 10) as u64);
-    replaying::say_count(b" texts", texts);
+    io::write_all(1, b" texts=");
+    io::print_decimal(1, texts);
+    io::write_all(1, b"\n");
 }
 
 // How many texts of the next text's kind came before it: none, if it is of another kind than the last, whose count is then said.
@@ -117,8 +119,7 @@ fn main() {
         } = replay()
         else {
             say_kind(kind, of_kind);
-            replaying::say_count(b"texts", texts);
-            replaying::say_count(b"different", different);
+            replaying::say_sum(b"texts", texts, different);
             return;
         };
         of_kind = count_before(kind, of_kind, next) + 1;

@@ -52,8 +52,7 @@ fn main() {
     let mut different = 0u64;
     while cases < 1000000 {
         let Case::Walked(is_alike) = replay() else {
-            replaying::say_count(b"cases", cases);
-            replaying::say_count(b"different", different);
+            replaying::say_sum(b"cases", cases, different);
             return;
         };
         different += replaying::count_different(b"case", cases, is_alike);

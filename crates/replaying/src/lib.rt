@@ -4,6 +4,7 @@
 ghost use mathlib.Core.Path.{_≡_};
 ghost use mathlib.Core.Bool.{true};
 ghost use Prim.Native.Nat.{_+_, _≤_, _<_};
+ghost use lib.Dec.{eqb};
 ghost use lib.ListN.{length, take};
 ghost use Rattle.replaying.specs.Replaying.{digitOf, numberAt, lengthsOf, Apart, differs};
 
@@ -87,9 +88,18 @@ pub fn count_different(what: &[u8], number: u64, is_alike: bool) -> u64
 }
 
 // Says how many there were.
-pub fn say_count(what: &[u8], count: u64) {
+fn say_count(what: &[u8], count: u64) {
     io::write_all(1, what);
     io::write_all(1, b"=");
     io::print_decimal(1, count);
     io::write_all(1, b"\n");
+}
+
+// Says how many there were and how many of them differed, and answers whether none did.
+pub fn say_sum(what: &[u8], count: u64, different: u64) -> bool
+    ensures { λ r. ⌜ r ≡ eqb different 0 ⌝ }
+{
+    say_count(what, count);
+    say_count(b"different", different);
+    different == 0
 }

@@ -56,7 +56,7 @@ module _ (s : List ℕ) (p : ℕ) where
   told-none e = by-bool (isWord s p) (λ h. let z : None ≡ At (wordValue s p) (wordEnd s p) = rw h at e in cc) (λ h. h)
 
   module _ (v n : ℕ) (e : At v n ≡ wordAt s p) where
-    pub told-word : isWord s p ≡ true
+    told-word : isWord s p ≡ true
     unfolding wordAt
     told-word = by-bool (isWord s p) (λ h. h) (λ h. let z : At v n ≡ None = rw h at e in cc)
 

@@ -1,11 +1,14 @@
 -- The chain search, a turn of its loop at a time. Assumes nothing.
-use Prim.Native.Nat.{ℕ, zero, suc, _-_, _<_, _≤_}
+use Prim.Native.Nat.{ℕ, zero, suc, _+_, _-_, _<_, _≤_}
 use mathlib.Core.Path.{_≡_, refl, sym, ap, _∙_, subst, subst⁻¹}
 use mathlib.Core.List.{List, [], _∷_}
 use mathlib.Core.Option.{Option, none, some, Option·none-ne-some, Option·some-injective}
 use native.Mathlib.Omega.{arith}
 use lib.ListN.{length}
-use lib.Dec.{ltb}
+use lib.Dec.{ltb, eqb}
+use borrow.Author.Tests.{eqb-true}
+use mathlib.Core.Bool.{true, _&&_}
+use Rattle.words.proofs.Laws.{and-left, and-right}
 use Rattle.words.specs.Words.{plus, back}
 use Rattle.words.proofs.Cases.{by-bool, by-option}
 use Rattle.rows.specs.View.{View}
@@ -23,12 +26,7 @@ use Rattle.search.specs.declared.Onward.the-variants.{To, No}
 use Rattle.search.specs.declared.Outcome.the-variants as outcome
 use Rattle.search.specs.declared.Searched.{Searched}
 use Rattle.search.proofs.Links.{Sized, with-link, was-missing}
-
-ok-fst : {A : Type 0} (a b : A) (k l : ℕ) → Path (Out A) (ok a k) (ok b l) → a ≡ b
-ok-fst a b k l e = cc
-
-ok-snd : {A : Type 0} (a b : A) (k l : ℕ) → Path (Out A) (ok a k) (ok b l) → k ≡ l
-ok-snd a b k l e = cc
+use Rattle.search.proofs.Steady.{Takes, Cost, ok-fst, ok-snd, calls-steady, chain-steady}
 
 none-sized : (l n : ℕ) → Sized n (ok none l)
 none-sized l n ks m e = absurd (let z : _≡_ {A = ℕ} 0 1 = cc in omega arith)
@@ -45,40 +43,6 @@ inside f spent fs k e = absurd (let z : _≡_ {A = ℕ} 0 1 = cc in omega arith)
 inside f (ok gs l) fs k e = record { inner = gs; was = cc; made = sym (ok-fst (f gs) fs l k e) }
 
 module _ (cb : ℕ → Call) (sz : ℕ → Option ℕ) where
-  -- a listing that leaves k needs just what it takes
-  record Exact (l end pc : ℕ) (fs : List Listed) (k : ℕ) : Type 0 where
-    fits : k ≤ l
-    exact : calls cb sz (l - k) end pc ≡ ok fs 0
-
-  nothing : (l end pc : ℕ) (fs : List Listed) (k : ℕ) → calls cb sz l end pc ≡ ok fs k → ((m : ℕ) → calls cb sz m end pc ≡ ok [] m) → Exact l end pc fs k
-  nothing l end pc fs k e q =
-      let p : Path (Out (List Listed)) (ok fs k) (ok [] l) = sym e ∙ q l in
-      let f : fs ≡ [] = ok-fst fs [] k l p in
-      let g : k ≡ l = ok-snd fs [] k l p in
-      record { fits = omega arith; exact = let z : l - k ≡ 0 = omega arith in q (l - k) ∙ cc }
-
-  calls-exact : (l end pc : ℕ) (fs : List Listed) (k : ℕ) → calls cb sz l end pc ≡ ok fs k → Exact l end pc fs k
-  unfolding andThen
-  calls-exact zero end pc fs k e =
-      by-bool (ltb pc end)
-      (λ t. by-option (sz pc)
-      (λ h. nothing zero end pc fs k e (λ m. calls-stuck cb sz m end pc t h))
-      (λ n h. absurd (let q : calls cb sz zero end pc ≡ spent = calls-broke cb sz end pc n t h in let z : _≡_ {A = ℕ} 0 1 = cc in omega arith)))
-      (λ t. nothing zero end pc fs k e (λ m. calls-end cb sz m end pc t))
-  calls-exact (suc l) end pc fs k e =
-      by-bool (ltb pc end)
-      (λ t. by-option (sz pc)
-      (λ h. nothing (suc l) end pc fs k e (λ m. calls-stuck cb sz m end pc t h))
-      (λ n h. let i : Inside (noted (plus pc n) (cb (plus pc n))) (calls cb sz l end (plus pc n)) fs k = inside _ _ fs k (sym (calls-visit cb sz l end pc n t h) ∙ e) in
-      let x : Exact l end (plus pc n) (i .inner) k = calls-exact l end (plus pc n) (i .inner) k (i .was) in
-      let f : k ≤ l = x .fits in
-      let m : suc l - k ≡ suc (l - k) = omega arith in
-      record { fits = omega arith; exact = rw (m, calls-visit cb sz (l - k) end pc n t h, x .exact) (again n (i .inner) ∙ ap (λ (z : List Listed). ok z 0) (sym (i .made))) }))
-      (λ t. nothing (suc l) end pc fs k e (λ m. calls-end cb sz m end pc t))
-    where
-      again : (n : ℕ) (gs : List Listed) → andThen (ok gs 0) (λ hs l. ok (noted (plus pc n) (cb (plus pc n)) hs) l) ≡ ok (noted (plus pc n) (cb (plus pc n)) gs) 0
-      again n gs = refl
-
   none-listed : (l end pc : ℕ) (fs : List Listed) → l ≡ 0 → calls cb sz l end pc ≡ ok fs 0 → fs ≡ []
   none-listed zero end pc fs z e =
       by-bool (ltb pc end)
@@ -233,8 +197,10 @@ module _ (row : ℕ → Option View) (cb : ℕ → Call) (sz : ℕ → Option �
             let y : listingBy (firstOf (straight target fs)) k ≡ Other after = sym (ap (λ (o : Out (List Listed)). listingOf target o) q) ∙ sym e ∙ h in
             by-option (straight target fs)
             (λ g. let v : k ≡ after = cc in
-            let t : Exact cb sz allowance end start fs after = calls-exact cb sz allowance end start fs after (q ∙ ap (λ (w : ℕ). ok fs w) v) in
-            (t .fits, record { fs = fs; walks = t .exact; rest = started depth fs after z (q ∙ ap (λ (w : ℕ). ok fs w) v) g }))
+            let t : Cost (λ l. calls cb sz l end start) allowance after fs = calls-steady cb sz end start allowance after fs (q ∙ ap (λ (w : ℕ). ok fs w) v) in
+            let u : allowance ≡ t .cost + after = t .sum in
+            let m : allowance - after ≡ t .cost + 0 = omega arith in
+            (omega arith, record { fs = fs; walks = rw m (t .takes .enough 0); rest = started depth fs after z (q ∙ ap (λ (w : ℕ). ok fs w) v) g }))
             (λ ra g. absurd (let z : _≡_ {A = ℕ} 0 1 = cc in omega arith))
 
     pub ahead-end : (todo pc left : ℕ) → Ahead todo pc left → todo ≤ 0 → ok none left ≡ chain row cb sz depth target start end allowance
@@ -242,6 +208,10 @@ module _ (row : ℕ → Option View) (cb : ℕ → Call) (sz : ℕ → Option �
     ahead-end todo pc left a h =
         let z : todo ≡ 0 = omega arith in
         ap (λ (gs : List Listed). throughCalls row (chain row cb sz (depth - 1) target) gs left) (sym (none-listed cb sz todo end pc (a .fs) z (a .walks))) ∙ a .rest
+
+    -- going on over instructions that list nothing
+    pub ahead-on : (todo pc left later from : ℕ) → Ahead todo pc left → calls cb sz later end from ≡ calls cb sz todo end pc → Ahead later from left
+    ahead-on todo pc left later from a e = record { fs = a .fs; walks = e ∙ a .walks; rest = a .rest }
 
     pub ahead-reads : (todo pc left : ℕ) → Ahead todo pc left → 0 < todo → sizeOf (sz pc) ≡ Unreadable → ⊥
     ahead-reads todo pc left a h u =
@@ -313,6 +283,17 @@ module _ (row : ℕ → Option View) (cb : ℕ → Call) (sz : ℕ → Option �
         pub ahead-miss : r .outcome ≡ outcome.Missing → Ahead (todo - 1) ra (r .left)
         ahead-miss m = let t : Made = made in record { fs = t .fs; walks = t .walks; rest = by-below t (ok none (r .left)) (was-missing r below g m) }
 
+        -- where the function below has failed before
+        module _ (cost : ℕ) (took : Takes (λ l. chain row cb sz d target s e l) cost none) where
+          pub ahead-again : cost ≤ left → Ahead (todo - 1) ra (left - cost)
+          ahead-again i =
+              let t : Made = made in
+              let v : left ≡ cost + (left - cost) = omega arith in
+              record { fs = t .fs; walks = t .walks; rest = by-below t (ok none (left - cost)) (ap (λ (l : ℕ). chain row cb sz d target s e l) v ∙ took .enough (left - cost)) }
+
+          pub ahead-spent : left < cost → searchedOf spent ≡ searchedOf (chain row cb sz depth target start end allowance)
+          ahead-spent i = ap searchedOf (by-below made spent (took .less left i))
+
         pub ahead-done : (r .outcome ≡ outcome.Missing → ⊥) → withLink r ra off ≡ searchedOf (chain row cb sz depth target start end allowance)
         ahead-done n = go below refl
           where
@@ -324,3 +305,27 @@ module _ (row : ℕ → Option View) (cb : ℕ → Call) (sz : ℕ → Option �
                 ∙ with-link ks ra off l
                 ∙ ap (λ (k : Link). searchedOf (ok (some (k ∷ ks)) l)) (sym (made .link))
                 ∙ ap searchedOf (by-below made (ok (some ks) l) q)
+
+  -- a search that failed takes as much of any allowance; no search of an empty range takes any
+  pub failed-once : (d target s e left : ℕ) (r : Searched) → r ≡ searchedOf (chain row cb sz d target s e left) → r .outcome ≡ outcome.Missing
+      → (r .left ≤ left) × Takes (λ l. chain row cb sz d target s e l) (left - r .left) none
+  failed-once d target s e left r g m =
+      let t : Cost (λ l. chain row cb sz d target s e l) left (r .left) none = chain-steady row cb sz d target s e left (r .left) none (was-missing r _ g m) in
+      let u : left ≡ t .cost + r .left = t .sum in
+      let v : left - r .left ≡ t .cost = omega arith in
+      (omega arith, rw v (t .takes))
+
+  pub failed-none : (d target : ℕ) → Takes (λ l. chain row cb sz d target 0 0 l) 0 none
+  unfolding chain andThen straight throughCalls
+  failed-none d target = record { enough = λ m. ap (λ (l : ℕ). chain row cb sz d target 0 0 l) (let v : 0 + m ≡ m = omega arith in v) ∙ go d m; less = λ m h. absurd (omega arith) }
+    where
+      go : (d m : ℕ) → chain row cb sz d target 0 0 m ≡ ok none m
+      go zero m = rw (chain, calls-end cb sz m 0 0 refl)
+      go (suc d) m = rw (chain, calls-end cb sz m 0 0 refl)
+
+  -- the function that failed last, met again
+  pub same-failed : (d target s e u from to : ℕ) → Takes (λ l. chain row cb sz d target from to l) u none → (eqb s from && eqb e to) ≡ true → Takes (λ l. chain row cb sz d target s e l) u none
+  same-failed d target s e u from to f t =
+      let p : s ≡ from = eqb-true s from (and-left (eqb s from) (eqb e to) t) in
+      let q : e ≡ to = eqb-true e to (and-right (eqb s from) (eqb e to) t) in
+      rw (p, q) f

@@ -194,7 +194,8 @@ fn settled(
 }
 
 // A chain of calls from a function's range to the target, through at most depth further functions. The function is listed whole first;
-// then as many instructions are gone through again, and each call that may be followed is.
+// then as many instructions are gone through again, and each call that may be followed is. The function that failed last fails again at
+// the same cost: it is not searched anew.
 pub fn call_chain(
     tables: &[u32],
     functions: &[u32],
@@ -223,7 +224,16 @@ pub fn call_chain(
     let mut todo = allowance - after;
     let mut pc = start;
     let mut left = after;
+    let mut failed_start = 0u32;
+    let mut failed_end = 0u32;
+    let mut cost = 0u32;
     while 0 < todo {
+        let on = calls::pass_over(sections, code, pc, end, todo);
+        pc = on.pc;
+        todo = on.left;
+        if todo == 0 {
+            return Searched::no_chain(Outcome::Missing, left);
+        }
         let Size::Is(n) = calls::size_at(sections, code, pc) else {
             return Searched::no_chain(Outcome::Missing, left);
         };
@@ -238,6 +248,13 @@ pub fn call_chain(
         else {
             continue;
         };
+        if (s == failed_start) & (e == failed_end) {
+            if left < cost {
+                return Searched::no_chain(Outcome::Spent, 0);
+            }
+            left -= cost;
+            continue;
+        }
         let found = call_chain(
             tables,
             functions,
@@ -255,6 +272,9 @@ pub fn call_chain(
         let Outcome::Missing = outcome else {
             return found.with(pc, off);
         };
+        failed_start = s;
+        failed_end = e;
+        cost = left - found.left;
         left = found.left;
     }
     Searched::no_chain(Outcome::Missing, left)

@@ -7,7 +7,7 @@ use mathlib.Core.List.{List, [], _∷_}
 use lib.ListN.{length, getD, take, drop, length-drop, drop-of-length-le}
 use lib.Seq.{take-all, take-nil}
 use lib.Dec.{leb, ltb}
-use borrow.Author.Tests.{leb-true, le-leb, lt-leb, lt-ltb, le-ltb}
+use borrow.Author.Tests.{leb-true, le-leb, lt-leb, ltb-true, ltb-false, lt-ltb, le-ltb}
 use mathlib.Core.Logic.{_⊎_, ⊎-elim}
 use native.Mathlib.Nat.{eq-or-lt-of-le, le-of-suc-le-suc, mul-le-mul-left, mul-le-mul-right, mul-suc}
 use native.Mathlib.Numerals.{add-one, sub-one}
@@ -125,6 +125,17 @@ pub first-none : (P : ℕ → Bool) (n k : ℕ) → n ≤ 0 → firstFrom P n k 
 unfolding firstFrom
 first-none P zero k h = refl
 first-none P (suc n) k h = absurd (omega arith)
+
+-- the first number that passes a test is the one before which none does
+pub first-is : (P : ℕ → Bool) (n i k : ℕ) → i ≤ k → k < i + n → P k ≡ true → ((j : ℕ) → j < k → P j ≡ false) → firstFrom P n i ≡ k
+first-is P zero i k l h t f = absurd (omega arith)
+first-is P (suc n) i k l h t f =
+    by-bool (leb k i)
+    (λ e. let q : i ≡ k = let u : k ≤ i = leb-true k i e in omega arith in
+    first-hit P (suc n) i (omega arith) (ap P q ∙ t) ∙ q)
+    (λ e. let u : i < k = by-bool (ltb i k) (λ v. ltb-true i k v) (λ v. absurd (true≢false (sym (le-leb k i (ltb-false i k v)) ∙ e))) in
+    let m : suc n - 1 ≡ n = omega arith in
+    first-miss P (suc n) i (omega arith) (f i u) ∙ ap (λ (x : ℕ). firstFrom P x (i + 1)) m ∙ first-is P n (i + 1) k (omega arith) (omega arith) t f)
 
 -- the first is at least k, at most k + n
 pub first-from : (P : ℕ → Bool) (n k : ℕ) → k ≤ firstFrom P n k

@@ -5,11 +5,11 @@ use Rattle.replay_lines.proofs.main.Statement.{statement}
 use Rattle.replay_lines.proofs.main.Tie as tie
 
 abbrev Inv-loop : tie.InvT-loop
-Inv-loop idf-words₀ idf-segments₀ sd-words₀ sd-segments₀ collector₀ top₀ lines₀ different₀ records₀ t13 t14 t15 idf-words idf-segments sd-words sd-segments collector top lines different records =
+Inv-loop idf-words₀ idf-segments₀ sd-words₀ sd-segments₀ collector₀ top₀ lines₀ different₀ records₀ t13 t14 idf-words idf-segments sd-words sd-segments collector top lines different records =
     (different ≤ lines) × (lines ≤ records)
 
 abbrev μ-loop : tie.MeasureT-loop
-μ-loop idf-words₀ idf-segments₀ sd-words₀ sd-segments₀ collector₀ top₀ lines₀ different₀ records₀ t13 t14 t15 idf-words idf-segments sd-words sd-segments collector top lines different records =
+μ-loop idf-words₀ idf-segments₀ sd-words₀ sd-segments₀ collector₀ top₀ lines₀ different₀ records₀ t13 t14 idf-words idf-segments sd-words sd-segments collector top lines different records =
     1000000 - records
 
 new-requires : tie.Need-new-requires Inv-loop μ-loop
@@ -63,17 +63,11 @@ loop-again-2 c = search needs
 enum-told : tie.Need-enum-told Inv-loop μ-loop
 enum-told c = search needs
 
-slice-aggregate-say-count : tie.Need-slice-aggregate-say-count Inv-loop μ-loop
-slice-aggregate-say-count c = search needs
+slice-aggregate-say-sum : tie.Need-slice-aggregate-say-sum Inv-loop μ-loop
+slice-aggregate-say-sum c = search needs
 
-say-count-requires : tie.Need-say-count-requires Inv-loop μ-loop
-say-count-requires c κs = search needs
-
-slice-aggregate-say-count-2 : tie.Need-slice-aggregate-say-count-2 Inv-loop μ-loop
-slice-aggregate-say-count-2 c = search needs
-
-say-count-requires-2 : tie.Need-say-count-requires-2 Inv-loop μ-loop
-say-count-requires-2 c κs = search needs
+say-sum-requires : tie.Need-say-sum-requires Inv-loop μ-loop
+say-sum-requires c κs = search needs
 
 returns : tie.Need-returns Inv-loop μ-loop
 returns c = search needs
@@ -104,9 +98,7 @@ main-spec =
     loop-less-2
     loop-again-2
     enum-told
-    slice-aggregate-say-count
-    say-count-requires
-    slice-aggregate-say-count-2
-    say-count-requires-2
+    slice-aggregate-say-sum
+    say-sum-requires
     returns
     returns-2)

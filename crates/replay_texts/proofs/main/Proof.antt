@@ -5,10 +5,10 @@ use Rattle.replay_texts.proofs.main.Statement.{statement}
 use Rattle.replay_texts.proofs.main.Tie as tie
 
 abbrev Inv-loop : tie.InvT-loop
-Inv-loop kind₀ of-kind₀ texts₀ different₀ t7 t8 t9 kind of-kind texts different = (of-kind ≤ texts) × (different ≤ texts)
+Inv-loop kind₀ of-kind₀ texts₀ different₀ t7 t8 kind of-kind texts different = (of-kind ≤ texts) × (different ≤ texts)
 
 abbrev μ-loop : tie.MeasureT-loop
-μ-loop kind₀ of-kind₀ texts₀ different₀ t7 t8 t9 kind of-kind texts different = 1000000 - texts
+μ-loop kind₀ of-kind₀ texts₀ different₀ t7 t8 kind of-kind texts different = 1000000 - texts
 
 loop-holds : tie.Need-loop-holds Inv-loop μ-loop
 loop-holds c = search needs
@@ -25,17 +25,11 @@ enum-told c = search needs
 say-kind-requires : tie.Need-say-kind-requires Inv-loop μ-loop
 say-kind-requires c κs = search needs
 
-slice-aggregate-say-count : tie.Need-slice-aggregate-say-count Inv-loop μ-loop
-slice-aggregate-say-count c = search needs
+slice-aggregate-say-sum : tie.Need-slice-aggregate-say-sum Inv-loop μ-loop
+slice-aggregate-say-sum c = search needs
 
-say-count-requires : tie.Need-say-count-requires Inv-loop μ-loop
-say-count-requires c κs = search needs
-
-slice-aggregate-say-count-2 : tie.Need-slice-aggregate-say-count-2 Inv-loop μ-loop
-slice-aggregate-say-count-2 c = search needs
-
-say-count-requires-2 : tie.Need-say-count-requires-2 Inv-loop μ-loop
-say-count-requires-2 c κs = search needs
+say-sum-requires : tie.Need-say-sum-requires Inv-loop μ-loop
+say-sum-requires c κs = search needs
 
 returns : tie.Need-returns Inv-loop μ-loop
 returns c = search needs
@@ -78,10 +72,8 @@ main-spec =
     enum-known-next
     enum-told
     say-kind-requires
-    slice-aggregate-say-count
-    say-count-requires
-    slice-aggregate-say-count-2
-    say-count-requires-2
+    slice-aggregate-say-sum
+    say-sum-requires
     returns
     count-before-requires
     add-of-kind

@@ -5,10 +5,10 @@ use Rattle.replay_walks.proofs.main.Statement.{statement}
 use Rattle.replay_walks.proofs.main.Tie as tie
 
 abbrev Inv-loop : tie.InvT-loop
-Inv-loop cases₀ different₀ t4 t5 t6 cases different = different ≤ cases
+Inv-loop cases₀ different₀ t4 t5 cases different = different ≤ cases
 
 abbrev μ-loop : tie.MeasureT-loop
-μ-loop cases₀ different₀ t4 t5 t6 cases different = 1000000 - cases
+μ-loop cases₀ different₀ t4 t5 cases different = 1000000 - cases
 
 loop-holds : tie.Need-loop-holds Inv-loop μ-loop
 loop-holds c = search needs
@@ -22,17 +22,11 @@ enum-known-is-alike c = search needs
 enum-told : tie.Need-enum-told Inv-loop μ-loop
 enum-told c = search needs
 
-slice-aggregate-say-count : tie.Need-slice-aggregate-say-count Inv-loop μ-loop
-slice-aggregate-say-count c = search needs
+slice-aggregate-say-sum : tie.Need-slice-aggregate-say-sum Inv-loop μ-loop
+slice-aggregate-say-sum c = search needs
 
-say-count-requires : tie.Need-say-count-requires Inv-loop μ-loop
-say-count-requires c κs = search needs
-
-slice-aggregate-say-count-2 : tie.Need-slice-aggregate-say-count-2 Inv-loop μ-loop
-slice-aggregate-say-count-2 c = search needs
-
-say-count-requires-2 : tie.Need-say-count-requires-2 Inv-loop μ-loop
-say-count-requires-2 c κs = search needs
+say-sum-requires : tie.Need-say-sum-requires Inv-loop μ-loop
+say-sum-requires c κs = search needs
 
 returns : tie.Need-returns Inv-loop μ-loop
 returns c = search needs
@@ -68,10 +62,8 @@ main-spec =
     replay-requires
     enum-known-is-alike
     enum-told
-    slice-aggregate-say-count
-    say-count-requires
-    slice-aggregate-say-count-2
-    say-count-requires-2
+    slice-aggregate-say-sum
+    say-sum-requires
     returns
     slice-aggregate-count-different
     count-different-requires

@@ -1,0 +1,267 @@
+-- Passing over instructions that are surely no calls leaves the listing as it is. Assumes nothing.
+use Prim.Native.Nat.{ℕ, zero, suc, _+_, _-_, _*_, _/_, _%_, _^_, _≤_, _<_}
+use mathlib.Core.Path.{_≡_, refl, sym, ap, _∙_}
+use mathlib.Core.Bool.{Bool, true, false, cond, _&&_, _||_, and-true}
+use mathlib.Core.List.{List}
+use mathlib.Core.Option.{some}
+use native.Mathlib.Omega.{arith}
+use lib.ListN.{length}
+use lib.Dec.{leb, ltb, eqb}
+use borrow.Author.Tests.{ltb-true, ltb-false, leb-true, eqb-true, eqb-false, lt-ltb, le-ltb, eq-eqb, ne-eqb}
+use Rattle.words.specs.Words.{plus, back}
+use Rattle.words.proofs.Laws.{and-left, and-right, or-left, or-right}
+use Rattle.words.proofs.Cases.{by-bool}
+use Rattle.code.specs.Code.{Code, codeIsGood, insnAt, little, windowAt}
+use Rattle.code.specs.declared.Insn.the-variants.{Is}
+use Rattle.code.specs.declared.Window.{Window}
+use Rattle.code.proofs.Laws.{little-four}
+use Rattle.code.proofs.Windows.{window-holds, window-inside, window-reads}
+use Rattle.calls.specs.declared.Call.{Call}
+use Rattle.calls.specs.declared.Call.the-variants.{None}
+use Rattle.calls.specs.declared.Spot.{Spot}
+use Rattle.calls.specs.Encoding.{isJal, isJalr, isCJal, isCJalr}
+use Rattle.calls.specs.Call.{wideCall, shortCall, callBefore}
+use Rattle.calls.specs.Listing.{Out, spent, ok, andThen, Listed, noted, calls, sizeAt}
+use Rattle.calls.specs.Passing.{mayCall, quietSize, spotAt, least, passed, passedOver}
+use Rattle.calls.proofs.Turns.{calls-visit}
+
+-- the size of a quiet instruction, by its first halfword
+module _ (b : List ℕ) (p half : ℕ) (e : half ≡ little 2 b p) (m : Bool) where
+  pub quiet-wide : (next : ℕ) → next ≡ little 2 b (p + 2) → half % 4 ≡ 3 → m ≡ mayCall half next → cond m 0 4 ≡ quietSize b p
+  unfolding quietSize
+  quiet-wide next f h q = rw (q, f, e, eq-eqb _ _ (rw e at h))
+
+  pub quiet-short : (last : ℕ) → last ≡ little 2 b (p - 2) → ¬ (half % 4 ≡ 3) → m ≡ mayCall last half → cond m 0 2 ≡ quietSize b p
+  unfolding quietSize
+  quiet-short last f h q = rw (q, f, e, ne-eqb _ _ (rw e at h))
+
+-- passing on, an instruction at a time
+module _ (b : List ℕ) (place stop : ℕ) where
+  pub pass-stop : (left d : ℕ) → stop ≤ d → spotAt d left ≡ passed b place stop left d
+  unfolding passed
+  pass-stop zero d h = refl
+  pass-stop (suc l) d h = sym (rw (le-ltb d stop h, passed))
+
+  pub pass-broke : (left d : ℕ) → left ≡ 0 → spotAt d left ≡ passed b place stop left d
+  unfolding passed
+  pass-broke zero d h = refl
+  pass-broke (suc l) d h = absurd (omega arith)
+
+  pub pass-call : (left d : ℕ) → quietSize b (place + d) ≡ 0 → spotAt d left ≡ passed b place stop left d
+  unfolding passed
+  pass-call zero d h = refl
+  pass-call (suc l) d h = by-bool (ltb d stop) (λ t. sym (rw (t, passed, eq-eqb _ _ h))) (λ t. sym (rw (t, passed)))
+
+  pub pass-on : (left d n : ℕ) → d < stop → ¬ (left ≡ 0) → n ≡ quietSize b (place + d) → ¬ (n ≡ 0) → passed b place stop (left - 1) (d + n) ≡ passed b place stop left d
+  unfolding passed
+  pass-on zero d n t z e h = absurd (z refl)
+  pass-on (suc l) d n t z e h =
+      let m : suc l - 1 ≡ l = omega arith in
+      rw (m, e) (sym (rw (lt-ltb d stop t, passed, ne-eqb _ _ (rw e at h))))
+
+  pass-within : (left d : ℕ) → passed b place stop left d .left ≤ left
+  unfolding passed
+  pass-within zero d = omega arith
+  pass-within (suc l) d =
+      by-bool (ltb d stop)
+      (λ t. by-bool (eqb (quietSize b (place + d)) 0)
+      (λ u. rw (t, passed, u) (omega arith))
+      (λ u. rw (t, passed, u) (let h : passed b place stop l (d + quietSize b (place + d)) .left ≤ l = pass-within l (d + quietSize b (place + d)) in omega arith)))
+      (λ t. rw (t, passed) (omega arith))
+
+-- halfwords that may be no call are none
+module _ (f l : ℕ) (h : mayCall f l ≡ false) where
+  -- the parts of the test
+  no-wide : (eqb (f % 128) 0b1101111 || eqb (f % 128) 0b1100111) ≡ false
+  no-wide = or-left (eqb (f % 128) 0b1101111 || eqb (f % 128) 0b1100111) (isCJal l || (eqb (l % 128) 0b0000010 && eqb (l / 4096 % 16) 0b1001)) h
+
+  no-short : (isCJal l || (eqb (l % 128) 0b0000010 && eqb (l / 4096 % 16) 0b1001)) ≡ false
+  no-short = or-right (eqb (f % 128) 0b1101111 || eqb (f % 128) 0b1100111) (isCJal l || (eqb (l % 128) 0b0000010 && eqb (l / 4096 % 16) 0b1001)) h
+
+  low-half : (f + 65536 * l) % 128 ≡ f % 128
+  low-half = omega arith
+
+  no-jal : isJal (f + 65536 * l) ≡ false
+  no-jal = rw (low-half, or-left (eqb (f % 128) 0b1101111) _ no-wide)
+
+  no-jalr : isJalr (f + 65536 * l) ≡ false
+  no-jalr = rw (low-half, or-right (eqb (f % 128) 0b1101111) _ no-wide)
+
+  no-c-jal : isCJal l ≡ false
+  no-c-jal = or-left (isCJal l) _ no-short
+
+  no-c-jalr : isCJalr l ≡ false
+  no-c-jalr =
+      by-bool (eqb (l % 4) 2)
+      (λ s. by-bool (eqb (l / 4096 % 16) 9)
+      (λ t. by-bool (eqb (l / 4 % 32) 0)
+      (λ u. absurd (let a : l % 4 ≡ 2 = eqb-true _ _ s in let b : l / 4 % 32 ≡ 0 = eqb-true _ _ u in
+      let m : (eqb (l % 128) 2 && true) ≡ false = rw t at (or-right (isCJal l) (eqb (l % 128) 2 && eqb (l / 4096 % 16) 9) no-short) in
+      eqb-false (l % 128) 2 (sym (and-true (eqb (l % 128) 2)) ∙ m) (omega arith)))
+      (λ u. rw (s, t, u)))
+      (λ t. rw (s, t)))
+      (λ s. rw s)
+
+-- an instruction before which there is no call adds nothing to a listing
+adds-nothing : (ra : ℕ) (call : Call) (o : Out (List Listed)) → call ≡ None → andThen o (λ fs k. ok (noted ra call fs) k) ≡ o
+unfolding andThen noted
+adds-nothing ra call spent e = refl
+adds-nothing ra call (ok fs k) e = rw e
+
+module _ (c : Code) (g : codeIsGood c ≡ true) (addr : ℕ) (w : Window) (e : w ≡ windowAt (c .sections) addr) where
+  reads : (k d : ℕ) → 0 < k → d + k ≤ w .size → insnAt k c (w .base + d) ≡ Is (little k (c .bytes) (w .place + d))
+  reads k d z h =
+      let q : w .base + d - w .base ≡ d = omega arith in
+      window-reads c g addr w e k (w .base + d) z (omega arith) (omega arith) ∙ rw q
+
+  quiet-none : (d : ℕ) → 4 ≤ d → d ≤ w .size → w .base + d < 2 ^ 32
+      → mayCall (little 2 (c .bytes) (w .place + (d - 4))) (little 2 (c .bytes) (w .place + (d - 2))) ≡ false → callBefore c (w .base + d) ≡ None
+  unfolding callBefore wideCall shortCall
+  quiet-none d l h s m =
+      let a : back (w .base + d) 4 ≡ w .base + (d - 4) = omega arith in
+      let b : back (w .base + d) 2 ≡ w .base + (d - 2) = omega arith in
+      let q : w .place + (d - 4) + 2 ≡ w .place + (d - 2) = omega arith in
+      let x : insnAt 4 c (w .base + (d - 4)) ≡ Is (little 2 (c .bytes) (w .place + (d - 4)) + 65536 * little 2 (c .bytes) (w .place + (d - 2))) =
+      reads 4 (d - 4) (omega arith) (omega arith) ∙ ap (λ (v : ℕ). Is v) (little-four (c .bytes) (w .place + (d - 4)) ∙ rw q) in
+      let y : insnAt 2 c (w .base + (d - 2)) ≡ Is (little 2 (c .bytes) (w .place + (d - 2))) = reads 2 (d - 2) (omega arith) (omega arith) in
+      let p : ℕ = little 2 (c .bytes) (w .place + (d - 4)) in
+      let v : ℕ = little 2 (c .bytes) (w .place + (d - 2)) in
+      rw (a, b, x, y, no-jal p v m, no-jalr p v m, no-c-jal p v m, no-c-jalr p v m)
+
+  -- an instruction that is passed over: its size is read, and no call ends with it
+  record Quiet (d n : ℕ) : Type 0 where
+    some-size : n ≤ 4
+    sized : sizeAt c (w .base + d) ≡ some n
+    none : callBefore c (w .base + (d + n)) ≡ None
+
+  quiet-turn : (d n : ℕ) → 2 ≤ d → d + 4 < w .size → n ≡ quietSize (c .bytes) (w .place + d) → ¬ (n ≡ 0) → Quiet d n
+  unfolding quietSize sizeAt
+  quiet-turn d n l h q z =
+      let r : insnAt 2 c (w .base + d) ≡ Is (little 2 (c .bytes) (w .place + d)) = reads 2 d (omega arith) (omega arith) in
+      let i : w .base + w .size ≤ 2 ^ 32 = window-inside c g addr w e .1 in
+      by-bool (eqb (little 2 (c .bytes) (w .place + d) % 4) 3)
+      (λ t. by-bool (mayCall (little 2 (c .bytes) (w .place + d)) (little 2 (c .bytes) (w .place + d + 2)))
+      (λ u. absurd (z (q ∙ rw (t, u))))
+      (λ u. let m : n ≡ 4 = q ∙ rw (t, u) in
+      let x : w .place + (d + 4 - 4) ≡ w .place + d = omega arith in
+      let y : w .place + (d + 4 - 2) ≡ w .place + d + 2 = omega arith in
+      rw m (record { some-size = omega arith; sized = rw (r, t); none = quiet-none (d + 4) (omega arith) (omega arith) (omega arith) (rw (x, y) u) })))
+      (λ t. by-bool (mayCall (little 2 (c .bytes) (w .place + d - 2)) (little 2 (c .bytes) (w .place + d)))
+      (λ u. absurd (z (q ∙ rw (t, u))))
+      (λ u. let m : n ≡ 2 = q ∙ rw (t, u) in
+      let x : w .place + (d + 2 - 4) ≡ w .place + d - 2 = omega arith in
+      let y : w .place + (d + 2 - 2) ≡ w .place + d = omega arith in
+      rw m (record { some-size = omega arith; sized = rw (r, t); none = quiet-none (d + 2) (omega arith) (omega arith) (omega arith) (rw (x, y) u) })))
+
+  -- the listing from where the passing ends is the listing from where it starts
+  pass-same : (end stop left d : ℕ) → 2 ≤ d → w .base + d < 2 ^ 32 → stop + 4 ≤ w .size → w .base + stop ≤ end
+      → calls (callBefore c) (sizeAt c) (passed (c .bytes) (w .place) stop left d .left) end (plus (w .base) (passed (c .bytes) (w .place) stop left d .pc))
+      ≡ calls (callBefore c) (sizeAt c) left end (plus (w .base) d)
+  unfolding passed
+  pass-same end stop zero d l s h k = refl
+  pass-same end stop (suc left) d l s h k =
+      by-bool (ltb d stop)
+      (λ t. by-bool (eqb (quietSize (c .bytes) (w .place + d)) 0)
+      (λ u. rw (t, passed, u))
+      (λ u. rw (t, passed, u) (on (quietSize (c .bytes) (w .place + d)) refl (eqb-false _ _ u) (ltb-true d stop t) (λ n v. pass-same end stop left (d + n) (omega arith) v h k))))
+      (λ t. rw (t, passed))
+    where
+      listed : ℕ → ℕ → Out (List Listed)
+      listed m pc = calls (callBefore c) (sizeAt c) m end pc
+
+      on : (n : ℕ) → n ≡ quietSize (c .bytes) (w .place + d) → ¬ (n ≡ 0) → d < stop
+          → ((n : ℕ) → w .base + (d + n) < 2 ^ 32
+          → listed (passed (c .bytes) (w .place) stop left (d + n) .left) (plus (w .base) (passed (c .bytes) (w .place) stop left (d + n) .pc)) ≡ listed left (plus (w .base) (d + n)))
+          → listed (passed (c .bytes) (w .place) stop left (d + n) .left) (plus (w .base) (passed (c .bytes) (w .place) stop left (d + n) .pc)) ≡ listed (suc left) (plus (w .base) d)
+      on n q z t ih =
+          let i : w .base + w .size ≤ 2 ^ 32 = window-inside c g addr w e .1 in
+          let y : Quiet d n = quiet-turn d n l (omega arith) q z in
+          let j : n ≤ 4 = y .some-size in
+          let a : plus (w .base) d ≡ w .base + d = omega arith in
+          let b : plus (w .base + d) n ≡ w .base + (d + n) = omega arith in
+          let o : w .base + d < end = omega arith in
+          let f : plus (w .base) (d + n) ≡ w .base + (d + n) = omega arith in
+          ih n (omega arith)
+          ∙ rw (f, a) (sym (calls-visit (callBefore c) (sizeAt c) left end (w .base + d) n (lt-ltb _ _ o) (y .sized) ∙ rw b (adds-nothing (w .base + (d + n)) _ (listed left (w .base + (d + n))) (y .none))))
+
+-- how far `pass_over` goes
+module _ (start end : ℕ) (w : Window) where
+  abbrev pub shows : Bool
+  shows = leb (w .base + 2) start && ltb start end && leb 4 (w .size)
+
+  -- the start is in the window, with two bytes before it and four bytes in all
+  pub record In : Type 0 where
+    pub before : w .base + 2 ≤ start
+    pub some : start < end
+    pub room : 4 ≤ w .size
+
+  pub is-in : shows ≡ true → In
+  is-in t =
+      let b : (leb (w .base + 2) start && ltb start end) ≡ true = and-left _ (leb 4 (w .size)) t in
+      record {
+        before = leb-true _ _ (and-left (leb (w .base + 2) start) (ltb start end) b);
+        some = ltb-true _ _ (and-right (leb (w .base + 2) start) (ltb start end) b);
+        room = leb-true _ _ (and-right (leb (w .base + 2) start && ltb start end) (leb 4 (w .size)) t);
+      }
+
+module _ (c : Code) (start end left : ℕ) (w : Window) (e : w ≡ windowAt (c .sections) start) where
+  pub over-in : shows start end w ≡ true → (stop : ℕ) → stop ≡ least (end - w .base) (w .size - 4) → (s : Spot) → s ≡ passed (c .bytes) (w .place) stop left (start - w .base)
+      → (pc : ℕ) → pc ≡ plus (w .base) (s .pc) → spotAt pc (s .left) ≡ passedOver c start end left
+  unfolding passedOver
+  over-in t stop q s f pc p = rw (p, f, q, ← e, t)
+
+  pub over-not : shows start end w ≡ false → spotAt start left ≡ passedOver c start end left
+  unfolding passedOver
+  over-not t = rw (← e, t)
+
+-- the lesser of two numbers is at most either
+least-upto : (a b : ℕ) → (least a b ≤ a) × (least a b ≤ b)
+least-upto a b =
+    by-bool (ltb a b)
+    (λ t. let h : a < b = ltb-true a b t in rw t (omega arith, omega arith))
+    (λ t. let h : b ≤ a = ltb-false a b t in rw t (omega arith, omega arith))
+
+-- what `pass` requires
+pub pass-room : (c : Code) → codeIsGood c ≡ true → (start end : ℕ) (w : Window) (e : w ≡ windowAt (c .sections) start) → shows start end w ≡ true
+    → (stop : ℕ) → stop ≡ least (end - w .base) (w .size - 4) → (2 ≤ start - w .base) × (stop + 4 ≤ 2 ^ 32) × (w .place + stop + 4 ≤ length (c .bytes))
+pass-room c g start end w e t stop q =
+    let i : In start end w = is-in start end w t in
+    let a : w .base + 2 ≤ start = i .before in
+    let r : 4 ≤ w .size = i .room in
+    let u : least (end - w .base) (w .size - 4) ≤ w .size - 4 = least-upto (end - w .base) (w .size - 4) .1 in
+    let j : (w .place + w .size ≤ length (c .bytes)) × (w .base + w .size ≤ 2 ^ 32) = window-inside c g start w e in
+    (omega arith, omega arith, omega arith)
+
+module _ (c : Code) (g : codeIsGood c ≡ true) (start end left : ℕ) where
+  abbrev there : Spot
+  there = passedOver c start end left
+
+  -- going on from there lists the same, with no more left
+  over-same : (there .left ≤ left) × (calls (callBefore c) (sizeAt c) (there .left) end (there .pc) ≡ calls (callBefore c) (sizeAt c) left end start)
+  unfolding passedOver
+  over-same = by-bool (shows start end w) here (λ t. rw t (omega arith, refl))
+    where
+      w : Window
+      w = windowAt (c .sections) start
+
+      here : shows start end w ≡ true
+          → (there .left ≤ left) × (calls (callBefore c) (sizeAt c) (there .left) end (there .pc) ≡ calls (callBefore c) (sizeAt c) left end start)
+      here t =
+          let i : In start end w = is-in start end w t in
+          let a : w .base + 2 ≤ start = i .before in
+          let b : start < end = i .some in
+          let r : 4 ≤ w .size = i .room in
+          let u : (least (end - w .base) (w .size - 4) ≤ end - w .base) × (least (end - w .base) (w .size - 4) ≤ w .size - 4) = least-upto (end - w .base) (w .size - 4) in
+          let x : w .base + (start - w .base) ≡ start = omega arith in
+          let v : start + 2 ≤ w .base + w .size = window-holds c g start w refl (omega arith) in
+          let o : w .base + w .size ≤ 2 ^ 32 = window-inside c g start w refl .1 in
+          let y : plus (w .base) (start - w .base) ≡ start = omega arith in
+          rw t (
+            pass-within (c .bytes) (w .place) (least (end - w .base) (w .size - 4)) left (start - w .base),
+            pass-same c g start w refl end (least (end - w .base) (w .size - 4)) left (start - w .base) (omega arith) (omega arith) (omega arith) (omega arith)
+                ∙ rw y,
+          )
+
+  -- the same of what `pass_over` answers
+  pub over-from : (s : Spot) → s ≡ there → (s .left ≤ left) × (calls (callBefore c) (sizeAt c) (s .left) end (s .pc) ≡ calls (callBefore c) (sizeAt c) left end start)
+  over-from s e = rw e over-same

@@ -1,0 +1,95 @@
+-- What a window shows: the bytes that a read of the code finds. Assumes nothing.
+use Prim.Native.Nat.{ℕ, _+_, _-_, _/_, _^_, _≤_, _<_}
+use mathlib.Core.Path.{_≡_, refl, sym, ap, _∙_}
+use mathlib.Core.List.{List}
+use mathlib.Core.Bool.{true, false}
+use native.Mathlib.Omega.{arith}
+use lib.ListN.{length}
+use lib.Dec.{leb, ltb}
+use borrow.Author.Tests.{leb-true, ltb-true, ltb-false, lt-ltb, le-ltb, le-leb}
+use Rattle.words.specs.Words.{all, firstFrom}
+use Rattle.words.proofs.Laws.{every-at, all-at, first-is}
+use Rattle.words.proofs.Cases.{by-bool}
+use Rattle.code.specs.Code.{Code, codeIsGood, address, offset, size, holdsBytes, placeOf, insnAt, little, areApart, windowOn, windowAt}
+use Rattle.code.specs.declared.Place.the-variants.{At}
+use Rattle.code.specs.declared.Insn.the-variants.{Is}
+use Rattle.code.specs.declared.Window.{Window}
+use Rattle.code.proofs.Laws.{held, first-held, place-at}
+
+-- bytes of a section are in none that is apart from it
+elsewhere : (s : List ℕ) (n a k j : ℕ) → 0 < n → address s k ≤ a → a + n ≤ address s k + size s k → areApart s k j ≡ true → holdsBytes s n a j ≡ false
+unfolding areApart
+elsewhere s n a k j z l h e =
+    by-bool (holdsBytes s n a j)
+    (λ t. let w : (address s j ≤ a) × (a + n ≤ address s j + size s j) = held s n a j t in
+    by-bool (leb (address s j + size s j) (address s k))
+    (λ u. absurd (let v : address s j + size s j ≤ address s k = leb-true _ _ u in omega arith))
+    (λ u. absurd (let v : address s k + size s k ≤ address s j = leb-true _ _ (rw u at e) in omega arith)))
+    (λ t. t)
+
+-- the window at addr, by the section of the 2 bytes there
+module _ (s : List ℕ) (addr k : ℕ) (e : k ≡ firstFrom (holdsBytes s 2 addr) (length s / 3) 0) where
+  pub window-alone : k < length s / 3 → all k (areApart s k) ≡ true → windowOn (address s k) (offset s k) (size s k) ≡ windowAt s addr
+  unfolding windowAt
+  window-alone h t = sym (simp (← e, lt-ltb _ _ h, t))
+
+  pub window-shared : k < length s / 3 → all k (areApart s k) ≡ false → windowOn 0 0 0 ≡ windowAt s addr
+  unfolding windowAt
+  window-shared h t = sym (simp (← e, lt-ltb _ _ h, t))
+
+  pub window-nowhere : length s / 3 ≤ k → windowOn 0 0 0 ≡ windowAt s addr
+  unfolding windowAt
+  window-nowhere h = sym (simp (← e, le-ltb _ _ h))
+
+module _ (s : List ℕ) (addr : ℕ) (w : Window) (e : w ≡ windowAt s addr) where
+  -- a window is a section that stands alone, or shows nothing
+  by-window {ℓ} : {P : Type ℓ} → (w ≡ windowOn 0 0 0 → P)
+      → ((k : ℕ) → k < length s / 3 → addr + 2 ≤ address s k + size s k → all k (areApart s k) ≡ true → w ≡ windowOn (address s k) (offset s k) (size s k) → P) → P
+  by-window none some =
+      by-bool (ltb k m)
+      (λ t. by-bool (all k (areApart s k))
+      (λ u. some k (ltb-true k m t) (first-held s 2 addr k refl (ltb-true k m t) .1) u (e ∙ sym (window-alone s addr k refl (ltb-true k m t) u)))
+      (λ u. none (e ∙ sym (window-shared s addr k refl (ltb-true k m t) u))))
+      (λ t. none (e ∙ sym (window-nowhere s addr k refl (ltb-false k m t))))
+    where
+      m : ℕ
+      m = length s / 3
+
+      k : ℕ
+      k = firstFrom (holdsBytes s 2 addr) m 0
+
+  -- what lies in a window is read from there
+  pub shown : (n a : ℕ) → 0 < n → w .base ≤ a → a + n ≤ w .base + w .size → placeOf s n a ≡ At (w .place + (a - w .base))
+  unfolding holdsBytes
+  shown n a z l h =
+      by-window (λ q. absurd (let b : w .base ≡ 0 = ap (λ (x : Window). x .base) q in let c : w .size ≡ 0 = ap (λ (x : Window). x .size) q in omega arith))
+      (λ k t o u q.
+      let b : w .base ≡ address s k = ap (λ (x : Window). x .base) q in
+      let p : w .place ≡ offset s k = ap (λ (x : Window). x .place) q in
+      let c : w .size ≡ size s k = ap (λ (x : Window). x .size) q in
+      let g : address s k ≤ a = omega arith in
+      let v : a + n ≤ address s k + size s k = omega arith in
+      let r : holdsBytes s n a k ≡ true = rw (le-leb _ _ g, le-leb _ _ v) in
+      place-at s n a k (sym (first-is (holdsBytes s n a) (length s / 3) 0 k (omega arith) (omega arith) r (λ j i. elsewhere s n a k j z g v (all-at _ k j u i)))) t
+      ∙ rw (b, p))
+
+module _ (c : Code) (g : codeIsGood c ≡ true) (addr : ℕ) (w : Window) (e : w ≡ windowAt (c .sections) addr) where
+  -- a window lies within the slice and the address space
+  pub window-inside : (w .place + w .size ≤ length (c .bytes)) × (w .base + w .size ≤ 2 ^ 32)
+  unfolding codeIsGood
+  window-inside =
+      by-window (c .sections) addr w e
+      (λ q. rw q (omega arith, omega arith))
+      (λ k t o u q. rw q (leb-true _ _ (all-at _ _ k (every-at _ 4 g) t), leb-true _ _ (all-at _ _ k (every-at _ 3 g) t)))
+
+  -- a window of some bytes has the two at addr
+  pub window-holds : 0 < w .size → addr + 2 ≤ w .base + w .size
+  window-holds h =
+      by-window (c .sections) addr w e
+      (λ q. absurd (let z : w .size ≡ 0 = ap (λ (x : Window). x .size) q in omega arith))
+      (λ k t o u q. rw q o)
+
+  -- the word that is read of what lies in a window
+  pub window-reads : (n a : ℕ) → 0 < n → w .base ≤ a → a + n ≤ w .base + w .size → insnAt n c a ≡ Is (little n (c .bytes) (w .place + (a - w .base)))
+  unfolding insnAt
+  window-reads n a z l h = rw (shown (c .sections) addr w e n a z l h)
