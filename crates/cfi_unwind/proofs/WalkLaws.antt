@@ -6,7 +6,7 @@ use mathlib.Core.Option.{Option, none, some}
 use mathlib.Core.Path.{_≡_, refl, sym, ap, ap₂, _∙_, subst⁻¹}
 use native.Mathlib.Omega.{arith}
 use lib.Dec.{leb, eqb}
-use lib.ListN.{length, drop, replicate, length-append}
+use lib.ListN.{length, drop, length-append}
 use borrow.Author.Tests.{eq-eqb, ne-eqb, leb-true}
 use Rattle.words.proofs.Cases.{by-bool}
 use Rattle.rows.specs.View.{View}
@@ -33,7 +33,7 @@ use Rattle.step.specs.Answers.{steppedOf}
 use Rattle.step.specs.Step.{Step, goes, halt, lost, step, stepMade}
 use Rattle.words.specs.Words.{flag}
 use Rattle.cfi_unwind.specs.Walk.{Walked, on, longer, ended, sound, after, lookupOf, regain, finish, advance, walk}
-use Rattle.cfi_unwind.specs.Answers.{stoppedAt, rebuiltOf, advancedBy, advancedOf, judgedOf, written, endedOf}
+use Rattle.cfi_unwind.specs.Answers.{stoppedAt, onTo, rebuiltOf, advancedBy, advancedOf, judgedOf, written, endedOf}
 use Rattle.cfi_unwind.specs.Unwind.{frameWords, recordOf, recordsOf, framesBy}
 use Rattle.cfi_unwind.proofs.ListLaws.{records-next, framesIn, inner-length, frames-length}
 
@@ -71,14 +71,12 @@ module _ (read : ℕ → Option ℕ) (s : Registers) (cfa : ℕ) (o : Out (Optio
 module _ (row : ℕ → Option View) (cb : ℕ → Call) (sz : ℕ → Option ℕ) (read : ℕ → Option ℕ) (words : ℕ) where
   -- the ways through `advance`
   module _ (s : Registers) (left : ℕ) (st : Step) (x : Stepped) (e : x ≡ steppedOf s st) where
-    pub advanced-caller : x .outcome ≡ outcome.Caller
-        → record { go = move.On; registers = x .registers; links = replicate 18 0; count = 0; cfa = 0; left = left } ≡ advancedBy row cb sz read words s left st
+    pub advanced-caller : {y : Advanced} → x .outcome ≡ outcome.Caller → y ≡ onTo (x .registers) left → y ≡ advancedBy row cb sz read words s left st
     unfolding advancedBy
-    advanced-caller h = go st e
+    advanced-caller h f = f ∙ go st e
       where
-        go : (t : Step) → x ≡ steppedOf s t
-            → record { go = move.On; registers = x .registers; links = replicate 18 0; count = 0; cfa = 0; left = left } ≡ advancedBy row cb sz read words s left t
-        go (goes b) q = ap (λ (y : Stepped). record { go = move.On; registers = y .registers; links = replicate 18 0; count = 0; cfa = 0; left = left }) q
+        go : (t : Step) → x ≡ steppedOf s t → onTo (x .registers) left ≡ advancedBy row cb sz read words s left t
+        go (goes b) q = ap (λ (y : Stepped). onTo (y .registers) left) q
         go (halt t) q = absurd (let z : _≡_ {A = ℕ} 0 1 = cc (ap (λ (y : Stepped). y .outcome) q) in omega arith)
         go (lost c t) q = absurd (let z : _≡_ {A = ℕ} 0 1 = cc (ap (λ (y : Stepped). y .outcome) q) in omega arith)
 

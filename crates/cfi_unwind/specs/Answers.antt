@@ -25,6 +25,10 @@ use Rattle.step.specs.Step.{Step, step, goes, halt, lost}
 abbrev pub stoppedAt : Stop → Registers → ℕ → Advanced
 stoppedAt stop s l = record { go = move.Stop stop; registers = s; links = replicate 18 0; count = 0; cfa = 0; left = l }
 
+-- a frame after which the walk goes on to its caller, with none rebuilt between them
+abbrev pub onTo : Registers → ℕ → Advanced
+onTo s l = record { go = On; registers = s; links = replicate 18 0; count = 0; cfa = 0; left = l }
+
 -- what `rebuild` answers, by what the scan for a caller comes to
 unfoldable pub rebuiltOf : (ℕ → Option ℕ) → Registers → ℕ → Out (Option Fit) → Advanced
 rebuiltOf read s cfa spent = stoppedAt (BudgetSpent (s .pc)) s 0
@@ -35,7 +39,7 @@ rebuiltOf read s cfa (ok (some x) l) =
 module _ (row : ℕ → Option View) (callBefore : ℕ → Call) (sizeAt : ℕ → Option ℕ) (read : ℕ → Option ℕ) where
   -- what `advance` answers, by what the step comes to
   unfoldable pub advancedBy : ℕ → Registers → ℕ → Step → Advanced
-  advancedBy words s left (goes b) = record { go = On; registers = b; links = replicate 18 0; count = 0; cfa = 0; left = left }
+  advancedBy words s left (goes b) = onTo b left
   advancedBy words s left (halt stop) = stoppedAt stop s left
   advancedBy words s left (lost cfa start) = rebuiltOf read s cfa (scan row callBefore sizeAt read (suc words) cfa start cfa left)
 

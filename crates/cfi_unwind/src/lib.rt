@@ -19,7 +19,7 @@ ghost use Rattle.rows.specs.View.{viewAt};
 ghost use Rattle.search.specs.Recover.{inner, scan};
 ghost use Rattle.search.specs.Answers.{linksIn};
 ghost use Rattle.cfi_unwind.specs.Walk as walk;
-ghost use Rattle.cfi_unwind.specs.Answers.{stoppedAt, rebuiltOf, advancedOf, judgedOf, written, endedOf};
+ghost use Rattle.cfi_unwind.specs.Answers.{stoppedAt, onTo, rebuiltOf, advancedOf, judgedOf, written, endedOf};
 ghost use Rattle.cfi_unwind.specs.Unwind.{frameWords, recordOf, recordsOf, framesBy, answerOf, framesOf};
 
 // Whether the walk goes on, with the caller's registers, or stops.
@@ -71,6 +71,20 @@ fn stopped(stop: Stop, registers: Registers, left: u32) -> Advanced
     Advanced {
         go: Move::Stop(stop),
         registers,
+        links: [0; 18],
+        count: 0,
+        cfa: 0,
+        left,
+    }
+}
+
+// A frame after which the walk goes on to its caller, with none rebuilt between them.
+fn onward(caller: Registers, left: u32) -> Advanced
+    ensures { λ r. ⌜ r ≡ onTo caller left ⌝ }
+{
+    Advanced {
+        go: Move::On,
+        registers: caller,
         links: [0; 18],
         count: 0,
         cfa: 0,
@@ -168,14 +182,7 @@ fn advance(
     match outcome {
         Outcome::Caller => {
             let caller = stepped.registers;
-            Advanced {
-                go: Move::On,
-                registers: caller,
-                links: [0; 18],
-                count: 0,
-                cfa: 0,
-                left,
-            }
+            onward(caller, left)
         }
         Outcome::Halt(stop) => stopped(stop, registers, left),
         Outcome::Lost {
@@ -285,6 +292,13 @@ fn lookup_pc(is_return_address: bool, pc: u32) -> u32
     pc
 }
 
+// A walk that ended.
+fn ending(count: u32, stop: Stop, left: u32) -> Ended
+    ensures { λ r. ⌜ r ≡ record { count = count; stop = stop; left = left } ⌝ }
+{
+    Ended { count, stop, left }
+}
+
 // The walk over good lists, with room for the frames.
 fn walk_frames(
     tables: &[u32],
@@ -309,18 +323,10 @@ fn walk_frames(
     let mut left = allowance;
     loop {
         let Value::Known(sp) = registers.get(Registers::SP) else {
-            return Ended {
-                count: n,
-                stop: Stop::UnknownRegister(Registers::SP),
-                left,
-            };
+            return ending(n, Stop::UnknownRegister(Registers::SP), left);
         };
         if limit <= n {
-            return Ended {
-                count: n,
-                stop: Stop::TooManyFrames,
-                left,
-            };
+            return ending(n, Stop::TooManyFrames, left);
         }
         let pc = registers.pc;
         let next = advance(
@@ -345,11 +351,7 @@ fn walk_frames(
         left = next.left;
         let go = judged.go;
         if let Move::Stop(stop) = go {
-            return Ended {
-                count: n,
-                stop,
-                left,
-            };
+            return ending(n, stop, left);
         }
         registers = next.registers;
         ret = true;

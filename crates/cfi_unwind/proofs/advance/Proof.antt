@@ -12,6 +12,9 @@ enum-told c = search needs
 enum-known-outcome : tie.Need-enum-known-outcome
 enum-known-outcome c = search needs
 
+onward-requires : tie.Need-onward-requires
+onward-requires c κs = search needs
+
 stopped-requires : tie.Need-stopped-requires
 stopped-requires c κs = search needs
 
@@ -22,7 +25,7 @@ rebuild-requires : tie.Need-rebuild-requires
 rebuild-requires c κs = search needs
 
 returns : tie.Need-returns
-returns c = advanced-caller _ _ _ _ _ _ _ _ _ (c .before .before .before .step .ensures) (c .before .enum-told .given .1)
+returns c = advanced-caller _ _ _ _ _ _ _ _ _ (c .before .before .before .before .step .ensures) (c .before .before .enum-told .given .1) (c .onward .ensures)
 
 returns-2 : tie.Need-returns-2
 returns-2 c = advanced-halt _ _ _ _ _ _ _ _ _ (c .before .before .before .before .step .ensures) _ (c .before .before .outcome .given .1) (c .stopped .ensures)
@@ -36,6 +39,7 @@ advance-spec =
     (tie.spec
     step-requires
     enum-told
+    onward-requires
     enum-known-outcome
     stopped-requires
     enum-known-outcome-2

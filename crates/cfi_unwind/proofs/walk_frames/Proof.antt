@@ -36,17 +36,23 @@ enum-known-sp c = search needs
 enum-told : tie.Need-enum-told Inv-loop μ-loop
 enum-told c = search needs
 
+ending-requires : tie.Need-ending-requires Inv-loop μ-loop
+ending-requires c κs = search needs
+
 same-length : tie.Need-same-length Inv-loop μ-loop
 same-length c = search needs
 
 returns : tie.Need-returns Inv-loop μ-loop
-returns c = walking-lost _ _ _ _ _ _ _ _ _ _ _ _ _ (c .before .before .before .loop .inv .0) (value-unknown (reads (c .before .before .before .loop .registers) 2) _ (c .before .before .get .ensures) (c .enum-told .given .1))
+returns c = rw (c .ending .ensures) (walking-lost _ _ _ _ _ _ _ _ _ _ _ _ _ (c .before .before .before .before .loop .inv .0) (value-unknown (reads (c .before .before .before .before .loop .registers) 2) _ (c .before .before .before .get .ensures) (c .before .enum-told .given .1)))
+
+ending-requires-2 : tie.Need-ending-requires-2 Inv-loop μ-loop
+ending-requires-2 c κs = search needs
 
 same-length-2 : tie.Need-same-length-2 Inv-loop μ-loop
 same-length-2 c = search needs
 
 returns-2 : tie.Need-returns-2 Inv-loop μ-loop
-returns-2 c = walking-full _ _ _ _ _ _ _ _ _ _ _ _ _ (c .before .before .before .before .before .loop .inv .0) _ (value-known (reads (c .before .before .before .before .before .loop .registers) 2) _ _ (c .before .before .before .before .get .ensures) (c .before .before .sp .given .1)) (c .if1 .taken)
+returns-2 c = rw (c .ending2 .ensures) (walking-full _ _ _ _ _ _ _ _ _ _ _ _ _ (c .before .before .before .before .before .before .loop .inv .0) _ (value-known (reads (c .before .before .before .before .before .before .loop .registers) 2) _ _ (c .before .before .before .before .before .get .ensures) (c .before .before .before .sp .given .1)) (c .before .if1 .taken))
 
 lookup-pc-requires : tie.Need-lookup-pc-requires Inv-loop μ-loop
 lookup-pc-requires c κs = search needs
@@ -85,11 +91,14 @@ add-n-2 c = record { fits = omega (arith, round-fits _ _ _ _ _ _ _ _ _ _ _ _ _ (
 enum-known-go : tie.Need-enum-known-go Inv-loop μ-loop
 enum-known-go c = search needs
 
+ending-requires-3 : tie.Need-ending-requires-3 Inv-loop μ-loop
+ending-requires-3 c κs = search needs
+
 same-length-3 : tie.Need-same-length-3 Inv-loop μ-loop
-same-length-3 c = omega (arith, c .before .before .before .before .before .before .before .before .before .before .before .before .before .before .before .before .before .before .before .before .before .before .before .loop .inv .1, c .before .before .before .before .before .before .before .before .before .before .before .frames .given, c .before .before .before .before .before .frames2 .given)
+same-length-3 c = omega (arith, c .before .before .before .before .before .before .before .before .before .before .before .before .before .before .before .before .before .before .before .before .before .before .before .before .loop .inv .1, c .before .before .before .before .before .before .before .before .before .before .before .before .frames .given, c .before .before .before .before .before .before .frames2 .given)
 
 returns-3 : tie.Need-returns-3 Inv-loop μ-loop
-returns-3 c = round-stop _ _ _ _ _ _ _ _ _ _ _ _ _ (c .before .before .before .before .before .before .before .before .before .before .before .before .before .before .before .before .before .before .before .before .before .before .before .loop .inv .0) _ _ (value-known (reads (c .before .before .before .before .before .before .before .before .before .before .before .before .before .before .before .before .before .before .before .before .before .before .before .loop .registers) 2) _ _ (c .before .before .before .before .before .before .before .before .before .before .before .before .before .before .before .before .before .before .before .before .before .before .get .ensures) (c .before .before .before .before .before .before .before .before .before .before .before .before .before .before .before .before .before .before .before .before .sp .given .1)) (c .before .before .before .before .before .before .before .before .before .before .before .before .before .before .before .before .before .before .if1 .left) (c .before .before .before .before .before .before .before .before .before .before .before .before .before .before .before .before .before .lookup-pc .ensures) _ (c .before .before .before .before .before .before .before .before .before .before .before .before .before .before .before .before .advance .ensures) _ (c .before .before .before .before .before .before .before .before .before .before .before .before .before .before .before .judge .ensures) _ _ _ (c .before .before .before .before .before .before .before .before .before .before .before .before .before .flag .ensures) (c .before .before .before .before .before .before .before .before .before .before .before .before .put .ensures) (c .before .before .before .before .before .before .put-rebuilt .ensures) _ (c .before .go .given .1)
+returns-3 c = rw (c .ending3 .ensures) (round-stop _ _ _ _ _ _ _ _ _ _ _ _ _ (c .before .before .before .before .before .before .before .before .before .before .before .before .before .before .before .before .before .before .before .before .before .before .before .before .loop .inv .0) _ _ (value-known (reads (c .before .before .before .before .before .before .before .before .before .before .before .before .before .before .before .before .before .before .before .before .before .before .before .before .loop .registers) 2) _ _ (c .before .before .before .before .before .before .before .before .before .before .before .before .before .before .before .before .before .before .before .before .before .before .before .get .ensures) (c .before .before .before .before .before .before .before .before .before .before .before .before .before .before .before .before .before .before .before .before .before .sp .given .1)) (c .before .before .before .before .before .before .before .before .before .before .before .before .before .before .before .before .before .before .before .if1 .left) (c .before .before .before .before .before .before .before .before .before .before .before .before .before .before .before .before .before .before .lookup-pc .ensures) _ (c .before .before .before .before .before .before .before .before .before .before .before .before .before .before .before .before .before .advance .ensures) _ (c .before .before .before .before .before .before .before .before .before .before .before .before .before .before .before .before .judge .ensures) _ _ _ (c .before .before .before .before .before .before .before .before .before .before .before .before .before .before .flag .ensures) (c .before .before .before .before .before .before .before .before .before .before .before .before .before .put .ensures) (c .before .before .before .before .before .before .before .put-rebuilt .ensures) _ (c .before .before .go .given .1))
 
 enum-told-2 : tie.Need-enum-told-2 Inv-loop μ-loop
 enum-told-2 c = search needs
@@ -110,8 +119,10 @@ walk-frames-spec =
     get-requires
     enum-known-sp
     enum-told
+    ending-requires
     same-length
     returns
+    ending-requires-2
     same-length-2
     returns-2
     lookup-pc-requires
@@ -126,6 +137,7 @@ walk-frames-spec =
     add-n
     add-n-2
     enum-known-go
+    ending-requires-3
     same-length-3
     returns-3
     enum-told-2
