@@ -5,9 +5,11 @@ use mathlib.Core.Bool.{Bool, true, false, Bool·beq, cond}
 use mathlib.Core.List.{List}
 use lib.Dec.{eqb, ltb}
 use lib.ListN.{getD}
-use borrow.Author.Tests.{eqb-true}
+use native.Mathlib.Omega.{arith}
+use borrow.Author.Tests.{eqb-true, lt-ltb, le-ltb}
 use Rattle.words.specs.Words.{within, all}
 use Rattle.words.proofs.Laws.{all-at}
+use Rattle.words.proofs.Cases.{by-bool}
 use Rattle.chars.specs.declared.Class.{Class}
 use Rattle.chars.specs.declared.Class.the-variants.{Space, Digit, Capital, Name}
 use Rattle.chars.specs.Classes.{isIn, hexValue, classOf, classesFrom, classes}
@@ -44,3 +46,12 @@ module _ (t : List ℕ) (e : t ≡ classes) (b : ℕ) (h : b < 256) where
 
   pub value-told : cond (ltb (getD t b 0) 32) (getD t b 0 % 16) 16 ≡ hexValue b
   value-told = rw e (eqb-true _ _ (all-at _ 256 b values-told h))
+
+  pub hex-told : ltb (getD t b 0) 32 ≡ ltb (hexValue b) 16
+  hex-told =
+      by-bool (ltb (getD t b 0) 32) (λ y. let v : getD t b 0 % 16 ≡ hexValue b = rw y at value-told in rw (y, lt-ltb (hexValue b) 16 (omega (arith, v))))
+      (λ y. let v : 16 ≡ hexValue b = rw y at value-told in rw (y, le-ltb (hexValue b) 16 (omega (arith, v))))
+
+  pub digit-told : hexValue b < 16 → getD t b 0 % 16 ≡ hexValue b
+  digit-told l =
+      by-bool (ltb (getD t b 0) 32) (λ y. rw y at value-told) (λ y. let v : 16 ≡ hexValue b = rw y at value-told in absurd (omega (arith, v)))

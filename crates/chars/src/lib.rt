@@ -3,6 +3,8 @@
 mod table;
 
 ghost use mathlib.Core.Path.{_≡_};
+ghost use Prim.Native.Nat.{_<_};
+ghost use lib.Dec.{ltb};
 ghost use Rattle.chars.specs.Classes.{isIn, hexValue, classes};
 
 // What the scanners ask of a byte.
@@ -44,4 +46,20 @@ pub fn hex_value(table: &[u8; 256], b: u8) -> u32
         return 16;
     }
     (k % 16) as u32
+}
+
+// Whether the byte is a hex digit.
+pub fn is_hex(table: &[u8; 256], b: u8) -> bool
+    requires { ⌜ now table ≡ classes ⌝ }
+    ensures { λ r. ⌜ r ≡ ltb (hexValue b) 16 ⌝ }
+{
+    table[b as usize] < 32
+}
+
+// What a byte that is a hex digit is worth, with no branch.
+pub fn digit_value(table: &[u8; 256], b: u8) -> u32
+    requires { ⌜ (now table ≡ classes) × (hexValue b < 16) ⌝ }
+    ensures { λ r. ⌜ (r ≡ hexValue b) × (r < 16) ⌝ }
+{
+    (table[b as usize] % 16) as u32
 }

@@ -1,5 +1,5 @@
 -- Byte pairs: two hex digits, or a `+` and one; what they are worth, and that digits alone are numbers. Assumes nothing.
-use Prim.Native.Nat.{ℕ, zero, suc, _+_, _-_, _*_, _/_, _%_, _<_}
+use Prim.Native.Nat.{ℕ, _+_, _-_, _*_, _/_, _%_, _<_}
 use mathlib.Core.Path.{_≡_, refl, _∙_}
 use mathlib.Core.Bool.{Bool, true, _&&_, _||_}
 use mathlib.Core.List.{List}
@@ -12,11 +12,12 @@ use lib.ListN.{length, getD, set}
 use lib.Seq.{getD-set-same, getD-set-other}
 use borrow.Author.Tests.{ltb-true, eqb-true, eqb-false, lt-ltb}
 use Rattle.words.specs.Words.{within, all}
-use Rattle.words.proofs.Laws.{all-none, all-more, all-at, and-right, every-at}
+use Rattle.words.proofs.Laws.{all-each, all-at, and-right, every-at}
 use Rattle.words.proofs.Cases.{by-bool}
 use Rattle.chars.specs.Classes.{hexValue}
 use Rattle.esp_backtrace.specs.declared.Number.the-variants.{Is}
-use Rattle.esp_backtrace.specs.Radix.{digitsFrom, areDigits, isNumber, radix16}
+use Rattle.scan.specs.Places.{areDigits}
+use Rattle.esp_backtrace.specs.Radix.{digitsFrom, isNumber, radix16}
 use Rattle.esp_backtrace.specs.Parse.{areBytes, byteAt, PairValues}
 use Rattle.esp_backtrace.proofs.Numbers.{after-plus, no-plus, reading-none, reading-more, a-number, told-number}
 
@@ -38,11 +39,6 @@ digit-told b =
 pub digits-more : (s : List ℕ) (at n : ℕ) (so-far : Bool) → so-far ≡ areDigits s at n → (so-far && ltb (hexValue (getD s (at + n) 0)) 16) ≡ areDigits s at (n + 1)
 unfolding all
 digits-more s at n so-far e = rw (add-one, e)
-
--- what holds of each holds of all
-all-each : (P : ℕ → Bool) (n : ℕ) → ((k : ℕ) → k < n → P k ≡ true) → all n P ≡ true
-all-each P zero h = all-none P
-all-each P (suc n) h = rw (← add-one) (all-more P n (all-each P n (λ k l. h k (omega arith))) (h n (omega arith)))
 
 -- a hex digit is no `+`
 no-digit : (b : ℕ) → b ≡ 43 → hexValue b < 16 → ⊥

@@ -4,12 +4,12 @@ use mathlib.Core.Bool.{true, false, cond}
 use mathlib.Core.List.{List}
 use lib.Dec.{ltb}
 use lib.ListN.{length, replicate}
-use Rattle.words.specs.Words.{back}
+use Rattle.words.specs.Words.{back, storedFrom}
 use Rattle.registers.specs.declared.Registers.{Registers}
 use Rattle.registers.specs.Registers.{setOf}
 use Rattle.memory.specs.declared.Pushed.{Pushed}
 use Rattle.memory.specs.declared.Pushed.the-variants.{Grown, Full as NoRoom}
-use Rattle.memory.specs.Push.{nothingYet, hasRoom, pushed, segmentsAfter, storedFrom}
+use Rattle.memory.specs.Push.{nothingYet, hasRoom, pushed, segmentsAfter}
 use Rattle.esp_backtrace.specs.Parse.{littleAt}
 use Rattle.esp_backtrace.specs.declared.Parsed.{Parsed}
 use Rattle.esp_backtrace.specs.declared.Parsed.the-variants.{Found, Nothing}

@@ -4,9 +4,8 @@ use mathlib.Core.Bool.{Bool, cond}
 use mathlib.Core.List.{List, [], _∷_}
 use lib.Dec.{eqb, ltb}
 use lib.ListN.{getD}
-use Rattle.words.specs.Words.{all, every}
-use Rattle.chars.specs.Classes.{hexValue}
-use Rattle.scan.specs.Places.{hexNumber}
+use Rattle.words.specs.Words.{every}
+use Rattle.scan.specs.Places.{areDigits, hexNumber}
 use Rattle.esp_backtrace.specs.declared.Number.{Number}
 use Rattle.esp_backtrace.specs.declared.Number.the-variants.{Is, Invalid}
 
@@ -17,10 +16,6 @@ digitsFrom s from = cond (eqb (getD s from 0) 43) (from + 1) from
 -- what the digits from there up to `to` are worth
 unfoldable pub number : List ℕ → ℕ → ℕ → ℕ
 number s from to = hexNumber s (digitsFrom s from) (to - digitsFrom s from)
-
--- the n bytes from `at` on are hex digits
-abbrev pub areDigits : List ℕ → ℕ → ℕ → Bool
-areDigits s at n = all n (λ k. ltb (hexValue (getD s (at + k) 0)) 16)
 
 -- from `from` up to `to` stand an optional `+` and one or more hex digits, worth less than 2^32
 unfoldable pub isNumber : List ℕ → ℕ → ℕ → Bool

@@ -10,8 +10,9 @@ ghost use Prim.Native.Nat.{_+_, _*_, _/_, _%_, _≤_, _<_};
 ghost use lib.Dec.{ltb};
 ghost use lib.ListN.{length};
 ghost use Rattle.chars.specs.Classes.{hexValue, classes};
-ghost use Rattle.memory.specs.Push.{storedFrom};
-ghost use Rattle.esp_backtrace.specs.Radix.{digitsFrom, areDigits, isNumber, radix16};
+ghost use Rattle.words.specs.Words.{storedFrom};
+ghost use Rattle.scan.specs.Places.{areDigits};
+ghost use Rattle.esp_backtrace.specs.Radix.{digitsFrom, isNumber, radix16};
 ghost use Rattle.esp_backtrace.specs.Parse.{trimmed, blankFrom, areBytes, parsed, byteAt, PairValues, littleAt};
 ghost use Rattle.esp_backtrace.specs.Feed.{spOf, registersOf, fed, segmentsFed, wordsFed};
 

@@ -1,22 +1,22 @@
 -- The pairs of a register line, one at a time, and the words of a stack line. Assumes nothing.
-use Prim.Native.Nat.{ℕ, zero, suc, _+_, _-_, _≤_, _<_}
+use Prim.Native.Nat.{ℕ, zero, suc, _+_, _-_, _≤_, _<_, min}
 use mathlib.Core.Path.{_≡_, refl, sym, ap, _∙_}
 use mathlib.Core.Bool.{true≢false}
 use mathlib.Core.List.{List}
+use native.Mathlib.Nat.{zero-add}
 use native.Mathlib.Numerals.{add-one}
 use native.Mathlib.Omega.{arith}
-use lib.ListN.{length, set}
-use Rattle.memory.specs.Push.{storedFrom}
-use Rattle.memory.proofs.Ways.{stored-none, stored-more, stored-length}
+use lib.ListN.{length, getD, set, replicate}
+use Rattle.words.specs.Words.{part, storedFrom}
+use Rattle.words.proofs.Laws.{stored-none, stored-more, stored-length, stored-at}
 use Rattle.scan.specs.declared.Pair.{Pair}
 use Rattle.scan.specs.declared.Pair.the-variants.{At, None}
 use Rattle.scan.specs.declared.Word.the-variants as word
 use Rattle.scan.specs.Pairs.{nextPair}
-use Rattle.scan.specs.Stack.{wordValue, wordAt, afterWords, wordCount}
+use Rattle.scan.specs.Stack.{wordValue, wordAt, afterWords, wordCount, keptFrom}
 use Rattle.scan.proofs.PairLaws.{resumes-past, resumes-within}
 use Rattle.scan.proofs.WordLaws.{told-none, told-value, told-end}
 use Rattle.esp_idf.specs.declared.EspIdf.{EspIdf}
-use Rattle.words.specs.Words.{part}
 use Rattle.esp_idf.specs.Registers.{pairTaken, pairsTaken}
 use Rattle.scan.proofs.Told.{none-left, counted}
 
@@ -96,3 +96,12 @@ module _ (s words₀ : List ℕ) (to count : ℕ) {words : List ℕ} {at k : ℕ
 
   pub storing-end : count ≤ k → words ≡ storedFrom count (λ j. wordValue s (afterWords s 9 j)) words₀ to
   storing-end h = let e : k ≡ count = omega (arith, r .upto) in sym (rw e at (r .stored))
+
+-- a word that was kept, of no more than were
+pub kept-at :
+    (s first : List ℕ) (count k : ℕ) → count ≤ 8 → count ≡ wordCount s 9 → first ≡ keptFrom s 9 (replicate 8 0) → k < count
+    → getD first k 0 ≡ wordValue s (afterWords s 9 k)
+unfolding keptFrom
+kept-at s first count k h e q l =
+    let m : min 8 (wordCount s 9) ≡ count = omega arith in
+    rw (q, m) (rw zero-add at (stored-at (λ j. wordValue s (afterWords s 9 j)) (replicate 8 0) 0 count k (omega arith) l))

@@ -5,13 +5,14 @@ use mathlib.Core.List.{List}
 use lib.Dec.{leb}
 use lib.ListN.{length}
 use Rattle.words.specs.Text.{bytes}
+use Rattle.words.specs.Words.{storedFrom}
 use Rattle.registers.specs.declared.Registers.{Registers}
 use Rattle.registers.specs.declared.Value.the-variants.{Unknown}
 use Rattle.registers.specs.Registers.{newOf}
 use Rattle.memory.specs.declared.StackMemory.{StackMemory}
 use Rattle.memory.specs.declared.Pushed.{Pushed}
 use Rattle.memory.specs.declared.Pushed.the-variants.{Grown, Full as NoRoom}
-use Rattle.memory.specs.Push.{nothingYet, hasRoom, pushed, segmentsAfter, storedFrom}
+use Rattle.memory.specs.Push.{nothingYet, hasRoom, pushed, segmentsAfter}
 use Rattle.scan.specs.Places.{stands}
 use Rattle.scan.specs.Header.{isHeader}
 use Rattle.scan.specs.Stack.{stackLine, wordValue, afterWords}

@@ -10,10 +10,10 @@ use scan::StackLine;
 use scan::Word;
 ghost use mathlib.Core.Path.{_≡_};
 ghost use Prim.Native.Nat.{_+_, _≤_};
-ghost use lib.ListN.{length};
+ghost use lib.ListN.{length, replicate};
 ghost use Rattle.chars.specs.Classes.{classes};
-ghost use Rattle.memory.specs.Push.{storedFrom};
-ghost use Rattle.scan.specs.Stack.{wordCount, wordValue, afterWords, stackLine};
+ghost use Rattle.words.specs.Words.{storedFrom};
+ghost use Rattle.scan.specs.Stack.{wordCount, wordValue, afterWords, keptFrom, stackLine};
 ghost use Rattle.esp_idf.specs.Registers.{isPc, worth, toldTo, pcTaken, registersRead, isRegisterLine, isBlank};
 ghost use Rattle.esp_idf.specs.Feed.{idle, inState, startOf, registersFed, passed, completed, grownTo, stackFed, wordsGrown, segmentsGrown, fed, wordsFed, segmentsFed};
 
@@ -98,7 +98,7 @@ fn is_blank(table: &[u8; 256], line: &[u8]) -> bool
     scan::skip(table, Class::Space, line, 0) == line.len()
 }
 
-// Stores the count words of a stack line from `to` on. They were counted, so that each is there.
+// Reads the count words of a stack line again, and stores them from `to` on. They were counted, so that each is there.
 fn store_words(table: &[u8; 256], line: &[u8], count: usize, words: &mut [u32], to: usize)
     requires { ⌜ (now table ≡ classes) × (count ≤ wordCount (now line) 9) × (to + count ≤ length (now words)) ⌝ }
     ensures { λ _. ⌜ now (words .exit) ≡ storedFrom count (λ k. wordValue (now (line .entry)) (afterWords (now (line .entry)) 9 k)) (now (words .entry)) to ⌝ }
@@ -113,6 +113,37 @@ fn store_words(table: &[u8; 256], line: &[u8], count: usize, words: &mut [u32], 
         at = next;
         k += 1;
     }
+}
+
+// Stores the words of a stack line that were kept.
+fn store_kept(first: &[u32; 8], line: &[u8], count: usize, words: &mut [u32], to: usize)
+    requires { ⌜ (count ≤ 8) × (count ≡ wordCount (now line) 9) × (now first ≡ keptFrom (now line) 9 (replicate 8 0)) × (to + count ≤ length (now words)) ⌝ }
+    ensures { λ _. ⌜ now (words .exit) ≡ storedFrom count (λ k. wordValue (now (line .entry)) (afterWords (now (line .entry)) 9 k)) (now (words .entry)) to ⌝ }
+{
+    let mut k = 0;
+    while k < count {
+        words[to + k] = first[k];
+        k += 1;
+    }
+}
+
+// Stores the count words of a stack line from `to` on: as a rule no more than were kept.
+fn store(
+    table: &[u8; 256],
+    line: &[u8],
+    first: &[u32; 8],
+    count: usize,
+    words: &mut [u32],
+    to: usize,
+)
+    requires { ⌜ (now table ≡ classes) × (count ≡ wordCount (now line) 9) × (now first ≡ keptFrom (now line) 9 (replicate 8 0)) × (to + count ≤ length (now words)) ⌝ }
+    ensures { λ _. ⌜ now (words .exit) ≡ storedFrom count (λ k. wordValue (now (line .entry)) (afterWords (now (line .entry)) 9 k)) (now (words .entry)) to ⌝ }
+{
+    if 8 < count {
+        store_words(table, line, count, words, to);
+        return;
+    }
+    store_kept(first, line, count, words, to);
 }
 
 impl EspIdf {
@@ -315,14 +346,15 @@ impl EspIdf {
         ensures { λ r. ⌜ now (words .exit) ≡ wordsGrown (stackLine (now (line .entry))) (now (line .entry)) (now (words .entry)) (now (segments .entry)) self ⌝ }
         ensures { λ r. ⌜ now (segments .exit) ≡ segmentsGrown (stackLine (now (line .entry))) (length (now (words .entry))) (now (segments .entry)) self ⌝ }
     {
-        let StackLine::Data { address, count } = scan::stack_line(table, line) else {
+        let mut first = [0u32; 8];
+        let StackLine::Data { address, count } = scan::stack_line(table, line, &mut first) else {
             return self.finish(table, line, words.len(), segments.len());
         };
         let held = self.stack;
         let Pushed::Grown(stack) = held.push(address, count, words.len(), segments) else {
             return self.without_dump(Line::Full);
         };
-        store_words(table, line, count, words, held.words);
+        store(table, line, &first, count, words, held.words);
         self.grown_to(stack).without_dump(Line::Data)
     }
 

@@ -1,18 +1,17 @@
--- Which way a push goes, from the tests that the code makes, and words stored one after the other. Assumes nothing.
-use Prim.Native.Nat.{ℕ, zero, suc, _+_, _-_, _*_, _/_, _%_, _^_, _≤_, _<_}
-use mathlib.Core.Path.{_≡_, refl, sym, _∙_}
+-- Which way a push goes, from the tests that the code makes. Assumes nothing.
+use Prim.Native.Nat.{ℕ, _+_, _-_, _*_, _/_, _%_, _^_, _≤_, _<_}
+use mathlib.Core.Path.{_≡_, sym, _∙_}
 use mathlib.Core.Bool.{Bool, true, false, cond, and-false}
 use mathlib.Core.List.{List}
-use native.Mathlib.Numerals.{add-one}
 use native.Mathlib.Omega.{arith}
 use lib.Dec.{ltb, eqb}
-use lib.ListN.{length, getD, set, length-set}
+use lib.ListN.{length, getD, set}
 use borrow.Author.Tests.{leb-true, ltb-true, lt-ltb, eq-eqb, ne-eqb}
 use Rattle.words.proofs.Laws.{and-left, every-at}
 use Rattle.words.proofs.Cases.{by-bool}
 use Rattle.memory.specs.declared.StackMemory.{StackMemory}
 use Rattle.memory.specs.declared.Pushed.the-variants.{Grown, Full}
-use Rattle.memory.specs.Push.{segmentEnd, joins, segmentsThen, hasRoom, pushed, added, segmentsAfter, storedFrom}
+use Rattle.memory.specs.Push.{segmentEnd, joins, segmentsThen, hasRoom, pushed, added, segmentsAfter}
 
 module _ (s : List ℕ) (n addr : ℕ) where
   by-joins : (b : Bool) → joins s n addr ≡ b → segmentsThen s n addr ≡ cond b n (n + 1)
@@ -71,21 +70,6 @@ module _ (m : StackMemory) (addr count room : ℕ) (s : List ℕ) (f : hasRoom m
   pub fit-places : segmentsThen s (m .segments) addr ≤ length s / 2
   unfolding hasRoom
   fit-places = leb-true _ _ (every-at _ 3 f)
-
--- words stored one after the other: one more, and the length stays
-module _ (f : ℕ → ℕ) (words : List ℕ) (to : ℕ) where
-  pub stored-none : storedFrom 0 f words to ≡ words
-  unfolding storedFrom
-  stored-none = refl
-
-  pub stored-more : (n : ℕ) → storedFrom (n + 1) f words to ≡ set (storedFrom n f words to) (to + n) (f n)
-  unfolding storedFrom
-  stored-more n = rw (add-one, storedFrom)
-
-  pub stored-length : (n : ℕ) → length (storedFrom n f words to) ≡ length words
-  unfolding storedFrom
-  stored-length zero = refl
-  stored-length (suc n) = length-set (storedFrom n f words to) (to + n) (f n) ∙ stored-length n
 
 -- what an answer of `push` tells
 module _ (m : StackMemory) (addr count room : ℕ) (s : List ℕ) where

@@ -1,5 +1,5 @@
 -- What adding words at an address does to the lent memory (document 01, "StackMemory"; refusal 3).
-use Prim.Native.Nat.{ℕ, zero, suc, _+_, _-_, _*_, _/_}
+use Prim.Native.Nat.{ℕ, _+_, _-_, _*_, _/_}
 use mathlib.Core.Bool.{Bool, _&&_, cond}
 use mathlib.Core.List.{List, [], _∷_}
 use lib.Dec.{ltb, leb, eqb}
@@ -53,8 +53,3 @@ added segments n addr count =
 unfoldable pub segmentsAfter : StackMemory → ℕ → ℕ → ℕ → List ℕ → List ℕ
 segmentsAfter m addr count room segments =
     cond (hasRoom m addr count room segments) (added segments (m .segments) addr count) segments
-
--- the list with f 0, f 1, .., n of them, from place `to` on: what the words are after the caller stored its own
-unfoldable pub storedFrom : ℕ → (ℕ → ℕ) → List ℕ → ℕ → List ℕ
-storedFrom zero f words to = words
-storedFrom (suc n) f words to = set (storedFrom n f words to) (to + n) (f n)

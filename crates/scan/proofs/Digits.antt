@@ -1,20 +1,22 @@
 -- A scan of the hex digits at a place, one digit at a time. Assumes nothing.
 use Prim.Native.Nat.{ℕ, _+_, _-_, _*_, _^_, _≤_, _<_, min}
+use mathlib.Core.Bool.{Bool, true, _&&_}
 use mathlib.Core.Path.{_≡_, sym, ap, _∙_}
 use mathlib.Core.List.{List}
-use native.Mathlib.Nat.{pow-le-pow-right}
+use native.Mathlib.Nat.{add-zero, pow-le-pow-right}
 use native.Mathlib.Numerals.{add-one}
 use native.Mathlib.Omega.{arith}
-use lib.Dec.{leb}
+use lib.Dec.{leb, ltb}
 use lib.ListN.{length, getD}
 use lib.Pow.{pow-add}
-use borrow.Author.Tests.{le-leb, lt-leb}
-use Rattle.words.specs.Words.{firstFrom}
-use Rattle.words.proofs.Laws.{first-from, first-upto}
+use borrow.Author.Tests.{le-leb, lt-leb, ltb-true, ltb-false}
+use Rattle.words.specs.Words.{all, firstFrom}
+use Rattle.words.proofs.Laws.{first-from, first-upto, all-at}
+use Rattle.words.proofs.Cases.{by-bool}
 use Rattle.chars.specs.Classes.{hexValue}
 use Rattle.scan.specs.declared.Hex.{Hex}
-use Rattle.scan.specs.Places.{hexEnd, hexNumber, hexRun}
-use Rattle.scan.proofs.Firsts.{first-here, upto-end, upto-miss}
+use Rattle.scan.specs.Places.{hexEnd, areDigits, hexNumber, hexRun}
+use Rattle.scan.proofs.Firsts.{first-here, upto-end, upto-miss, upto-skip}
 
 -- one digit more
 pub number-more : (s : List ℕ) (at n : ℕ) → hexNumber s at (n + 1) ≡ hexNumber s at n * 16 + hexValue (getD s (at + n) 0)
@@ -89,3 +91,49 @@ module _ (s : List ℕ) (at : ℕ) (h : Hex) (e : h ≡ hexRun s at) where
 
   pub run-from : at ≤ h .next
   run-from = rw run-next (hex-from s at)
+
+-- each of so many digits is worth less than 16
+pub digit-at : (s : List ℕ) (at n k : ℕ) → areDigits s at n ≡ true → k < n → hexValue (getD s (at + k) 0) < 16
+digit-at s at n k a h = ltb-true _ 16 (all-at (λ j. ltb (hexValue (getD s (at + j) 0)) 16) n k a h)
+
+-- four digits, each told by itself
+module _ (s : List ℕ) (at : ℕ) where
+  pub four-are :
+      (a b c d : Bool) → a ≡ ltb (hexValue (getD s at 0)) 16 → b ≡ ltb (hexValue (getD s (at + 1) 0)) 16
+      → c ≡ ltb (hexValue (getD s (at + 2) 0)) 16 → d ≡ ltb (hexValue (getD s (at + 3) 0)) 16 → (((a && b) && c) && d) ≡ areDigits s at 4
+  unfolding all
+  four-are a b c d p q r t = rw (add-zero, p, q, r, t)
+
+  pub four-make :
+      (a b c d : ℕ) → a ≡ hexValue (getD s at 0) → b ≡ hexValue (getD s (at + 1) 0) → c ≡ hexValue (getD s (at + 2) 0)
+      → d ≡ hexValue (getD s (at + 3) 0) → (a * 16 + b) * 256 + (c * 16 + d) ≡ hexNumber s at 4
+  unfolding hexNumber
+  four-make a b c d p q r t = rw add-zero (omega (arith, p, q, r, t))
+
+-- eight digits, four by four
+module _ (s : List ℕ) (at : ℕ) (a : areDigits s at 4 ≡ true) (b : areDigits s (at + 4) 4 ≡ true) where
+  eight-digit : (j : ℕ) → at ≤ j → j < at + 8 → hexValue (getD s j 0) < 16
+  eight-digit j l h =
+      by-bool (ltb j (at + 4))
+      (λ y. let e : at + (j - at) ≡ j = omega arith in rw e at (digit-at s at 4 (j - at) a (omega (arith, ltb-true j (at + 4) y))))
+      (λ y.
+      let q : at + 4 ≤ j = ltb-false j (at + 4) y in
+      let e : at + 4 + (j - (at + 4)) ≡ j = omega arith in
+      rw e at (digit-at s (at + 4) 4 (j - (at + 4)) b (omega arith)))
+
+  pub eight-end : at + 8 ≤ length s → hexEnd s at ≡ at + 8
+  unfolding hexEnd
+  eight-end h =
+      let n : min 8 (length s - at) ≡ at + 8 - at = omega arith in
+      rw n
+      (upto-skip _ (at + 8) 8 at (omega arith) (λ j l m. lt-leb 16 (hexValue (getD s j 0)) (eight-digit j l m))
+      ∙ upto-end _ (at + 8) (at + 8) (omega arith))
+
+pub eight-make : (s : List ℕ) (at : ℕ) → hexNumber s at 8 ≡ hexNumber s at 4 * 65536 + hexNumber s (at + 4) 4
+unfolding hexNumber
+eight-make s at =
+    let d : at + 4 + 0 ≡ at + 4 = omega arith in
+    let e : at + 4 + 1 ≡ at + 5 = omega arith in
+    let f : at + 4 + 2 ≡ at + 6 = omega arith in
+    let g : at + 4 + 3 ≡ at + 7 = omega arith in
+    rw (d, e, f, g) (omega arith)

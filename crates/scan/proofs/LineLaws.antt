@@ -1,7 +1,7 @@
 -- A stack line, from the tests that the code makes. Assumes nothing.
 use Prim.Native.Nat.{ℕ, _-_}
 use mathlib.Core.Path.{_≡_, sym, ap, _∙_}
-use mathlib.Core.Bool.{true, false}
+use mathlib.Core.Bool.{true, false, and-false}
 use mathlib.Core.List.{List}
 use native.Mathlib.Omega.{arith}
 use lib.ListN.{length}
@@ -13,7 +13,7 @@ use Rattle.scan.specs.declared.Hex.{Hex}
 use Rattle.scan.specs.declared.Words.{Words}
 use Rattle.scan.specs.declared.StackLine.the-variants.{Data, Other}
 use Rattle.scan.specs.Places.{past, stands, hexEnd, hexNumber, hexRun}
-use Rattle.scan.specs.Stack.{afterWords, wordCount, wordsAt, isStackLine, stackLine}
+use Rattle.scan.specs.Stack.{afterWords, wordCount, wordsAt, keptFrom, isStackLine, stackLine, keptOf}
 use Rattle.scan.proofs.Digits.{run-next, run-value}
 
 module _ (s : List ℕ) where
@@ -25,9 +25,24 @@ module _ (s : List ℕ) where
   unfolding isStackLine
   no-address h e n = no-line (every-false _ 0 (ne-eqb (hexEnd s 0) 8 (λ q. n (run-next s 0 h e ∙ q))))
 
+  pub no-address-kept : (h : Hex) → h ≡ hexRun s 0 → (h .next ≡ 8 → ⊥) → (first : List ℕ) → first ≡ keptOf s first
+  unfolding keptOf
+  no-address-kept h e n first = rw (ne-eqb (hexEnd s 0) 8 (λ q. n (run-next s 0 h e ∙ q)))
+
   pub no-colon : stands (bytes ":") s 8 ≡ false → Other ≡ stackLine s
   unfolding isStackLine
   no-colon e = no-line (every-false _ 1 e)
+
+  pub no-colon-kept : stands (bytes ":") s 8 ≡ false → (first : List ℕ) → first ≡ keptOf s first
+  unfolding keptOf
+  no-colon-kept e first = rw (e, and-false)
+
+  -- after an address and a colon the words are kept
+  pub words-kept :
+      (h : Hex) → h ≡ hexRun s 0 → h .next ≡ 8 → stands (bytes ":") s 8 ≡ true → (first kept : List ℕ) → kept ≡ keptFrom s 9 first
+      → kept ≡ keptOf s first
+  unfolding keptOf
+  words-kept h d n c first kept e = rw (eq-eqb (hexEnd s 0) 8 (sym (run-next s 0 h d) ∙ n), c) e
 
   module _ (w : Words) (e : w ≡ wordsAt s 9) where
     count-is : w .count ≡ wordCount s 9

@@ -3,11 +3,11 @@ use Prim.Native.Nat.{ℕ, _+_, _≤_, _<_}
 use mathlib.Core.Path.{_≡_}
 use mathlib.Core.Bool.{Bool, true, false}
 use mathlib.Core.List.{List}
-use lib.Dec.{eqb}
+use lib.Dec.{eqb, leb}
 use lib.ListN.{length, getD}
-use borrow.Author.Tests.{le-leb, lt-leb, leb-true}
+use borrow.Author.Tests.{le-leb, lt-leb, leb-true, eqb-true}
 use Rattle.words.specs.Words.{all}
-use Rattle.words.proofs.Laws.{and-left}
+use Rattle.words.proofs.Laws.{and-left, and-right, all-at}
 use Rattle.scan.specs.Places.{stands}
 
 module _ (text s : List ℕ) (at : ℕ) where
@@ -23,3 +23,9 @@ module _ (text s : List ℕ) (at : ℕ) where
   pub stood : stands text s at ≡ true → at + length text ≤ length s
   unfolding stands
   stood e = leb-true _ _ (and-left _ _ e)
+
+  -- and its bytes are the line's there
+  pub stood-byte : stands text s at ≡ true → (k : ℕ) → k < length text → getD s (at + k) 0 ≡ getD text k 0
+  unfolding stands
+  stood-byte e k h =
+      eqb-true _ _ (all-at (λ j. eqb (getD s (at + j) 0) (getD text j 0)) (length text) k (and-right (leb (at + length text) (length s)) _ e) h)

@@ -1,13 +1,13 @@
 -- What an answer of `next_pair` and of `stack_line` tells, that each word counted is one, and what a line's first byte tells. Assumes nothing.
-use Prim.Native.Nat.{ℕ, _+_, _-_, _≤_, _<_}
+use Prim.Native.Nat.{ℕ, _-_, _≤_, _<_}
 use mathlib.Core.Path.{_≡_, sym, _∙_}
 use mathlib.Core.Bool.{true, false, not}
 use mathlib.Core.List.{List}
 use native.Mathlib.Omega.{arith}
-use lib.Dec.{eqb, ltb, leb}
+use lib.Dec.{ltb, leb}
 use lib.ListN.{length, getD}
-use borrow.Author.Tests.{eqb-true, ltb-true, le-ltb}
-use Rattle.words.proofs.Laws.{first-from, first-upto, and-right, all-at, every-false}
+use borrow.Author.Tests.{ltb-true, le-ltb}
+use Rattle.words.proofs.Laws.{first-from, first-upto, every-at, every-false}
 use Rattle.words.proofs.Cases.{by-bool}
 use Rattle.chars.specs.declared.Class.the-variants.{Name}
 use Rattle.chars.specs.Classes.{isIn, hexValue}
@@ -15,8 +15,9 @@ use Rattle.scan.specs.declared.Pair.the-variants.{At, None}
 use Rattle.scan.specs.declared.StackLine.the-variants.{Data, Other}
 use Rattle.scan.specs.Places.{past, stands, hexEnd, hexNumber}
 use Rattle.scan.specs.Pairs.{isPair, pairPlace, pairAt, nextPair}
-use Rattle.scan.specs.Stack.{isWord, afterWords, wordCount, isStackLine, stackLine}
+use Rattle.scan.specs.Stack.{isWord, afterWords, wordCount, keptFrom, isStackLine, stackLine, keptOf}
 use Rattle.scan.proofs.Firsts.{first-here, first-before}
+use Rattle.scan.proofs.Texts.{stood-byte}
 
 -- what an answer of `next_pair` tells
 module _ (s : List ℕ) (at : ℕ) where
@@ -64,6 +65,12 @@ told-count s address count z =
     by-bool (isStackLine s) (λ y. let w : Data address count ≡ Data (hexNumber s 0 8) (wordCount s 9) = rw y at z in cc)
     (λ y. let w : Data address count ≡ Other = rw y at z in cc)
 
+-- and the words kept are the first of them
+pub told-kept : (s : List ℕ) (address count : ℕ) → Data address count ≡ stackLine s → (first : List ℕ) → keptOf s first ≡ keptFrom s 9 first
+unfolding stackLine keptOf isStackLine
+told-kept s address count z first =
+    by-bool (isStackLine s) (λ y. rw (every-at _ 0 y, every-at _ 1 y)) (λ y. let w : Data address count ≡ Other = rw y at z in cc)
+
 -- each of the words counted is one
 pub counted : (s : List ℕ) (p k : ℕ) → k < wordCount s p → isWord s (afterWords s p k) ≡ true
 unfolding wordCount
@@ -83,6 +90,4 @@ module _ (s : List ℕ) where
 
   -- where a text stands at the start, its first byte does
   pub first-byte : (text : List ℕ) → 0 < length text → stands text s 0 ≡ true → getD s 0 0 ≡ getD text 0 0
-  unfolding stands
-  first-byte text h e =
-      eqb-true _ _ (all-at (λ k. eqb (getD s (0 + k) 0) (getD text k 0)) (length text) 0 (and-right (leb (0 + length text) (length s)) _ e) h)
+  first-byte text h e = stood-byte text s 0 e 0 h

@@ -2,7 +2,7 @@
 use Prim.Native.Nat.{ℕ, zero, suc, _+_, _-_, _*_, min}
 use mathlib.Core.Bool.{Bool, _&&_, not}
 use mathlib.Core.List.{List}
-use lib.Dec.{eqb, leb}
+use lib.Dec.{eqb, leb, ltb}
 use lib.ListN.{length, getD}
 use Rattle.words.specs.Words.{all, firstFrom}
 use Rattle.chars.specs.declared.Class.{Class}
@@ -20,6 +20,10 @@ stands text s at = leb (at + length text) (length s) && all (length text) (λ k.
 -- the place after the hex digits from `at` on, of which 8 at most are taken
 unfoldable pub hexEnd : List ℕ → ℕ → ℕ
 hexEnd s at = firstFrom (λ k. leb 16 (hexValue (getD s k 0))) (min 8 (length s - at)) at
+
+-- the n bytes from `at` on are hex digits
+abbrev pub areDigits : List ℕ → ℕ → ℕ → Bool
+areDigits s at n = all n (λ k. ltb (hexValue (getD s (at + k) 0)) 16)
 
 -- the number that the n hex digits from `at` on make
 unfoldable pub hexNumber : List ℕ → ℕ → ℕ → ℕ

@@ -1,10 +1,10 @@
 -- A line of the stack memory dump (document 01, "Stack line").
-use Prim.Native.Nat.{ℕ, zero, suc, _+_}
-use mathlib.Core.Bool.{Bool, cond, not}
+use Prim.Native.Nat.{ℕ, zero, suc, _+_, min}
+use mathlib.Core.Bool.{Bool, _&&_, cond, not}
 use mathlib.Core.List.{List, [], _∷_}
 use lib.Dec.{eqb, ltb}
 use lib.ListN.{length}
-use Rattle.words.specs.Words.{every, firstFrom}
+use Rattle.words.specs.Words.{every, firstFrom, storedFrom}
 use Rattle.chars.specs.declared.Class.the-variants.{Space}
 use Rattle.words.specs.Text.{bytes}
 use Rattle.scan.specs.Places.{past, stands, hexEnd, hexNumber}
@@ -45,6 +45,10 @@ wordCount s p = firstFrom (λ k. not (isWord s (afterWords s p k))) (length s) 0
 unfoldable pub wordsAt : List ℕ → ℕ → Words
 wordsAt s p = record { count = wordCount s p; next = afterWords s p (wordCount s p) }
 
+-- the list with the first eight of the words from p on at its start
+unfoldable pub keptFrom : List ℕ → ℕ → List ℕ → List ℕ
+keptFrom s p first = storedFrom (min 8 (wordCount s p)) (λ k. wordValue s (afterWords s p k)) first 0
+
 -- 8 hex digits, `:`, one or more words, then optional space to the line's end
 unfoldable pub isStackLine : List ℕ → Bool
 isStackLine s =
@@ -58,3 +62,7 @@ isStackLine s =
 -- what a stack line says: the address, and how many words follow from place 9 on
 unfoldable pub stackLine : List ℕ → StackLine
 stackLine s = cond (isStackLine s) (Data (hexNumber s 0 8) (wordCount s 9)) Other
+
+-- the list with what is kept of a line's words: none where it does not start with 8 hex digits and `:`
+unfoldable pub keptOf : List ℕ → List ℕ → List ℕ
+keptOf s first = cond (eqb (hexEnd s 0) 8 && stands (bytes ":") s 8) (keptFrom s 9 first) first

@@ -2,11 +2,13 @@
 // the stack line and the register pair. Each is linear in the line, and lent the class table that its caller makes once.
 use chars::Class;
 ghost use mathlib.Core.Path.{_≡_};
-ghost use Prim.Native.Nat.{_+_, _-_, min};
+ghost use mathlib.Core.Bool.{true};
+ghost use Prim.Native.Nat.{_+_, _-_, _<_, _≤_, min};
+ghost use lib.ListN.{length};
 ghost use Rattle.chars.specs.Classes.{classes};
-ghost use Rattle.scan.specs.Places.{past, stands, hexRun};
+ghost use Rattle.scan.specs.Places.{past, stands, areDigits, hexNumber, hexRun};
 ghost use Rattle.scan.specs.Header.{isHeader};
-ghost use Rattle.scan.specs.Stack.{wordAt, wordsAt, stackLine};
+ghost use Rattle.scan.specs.Stack.{wordAt, wordsAt, keptFrom, stackLine, keptOf};
 ghost use Rattle.scan.specs.Pairs.{valueAt, nextPair};
 
 // Hex digits: the number that they make, and the place after the last.
@@ -158,26 +160,74 @@ pub fn word_at(table: &[u8; 256], line: &[u8], at: usize) -> Word
     }
 }
 
-// The words from `at` on, one after the other.
-fn words_at(table: &[u8; 256], line: &[u8], at: usize) -> Words
+// Whether the 4 bytes from `at` on are hex digits. They are joined by `&`, so that there is no branch.
+fn are_four(table: &[u8; 256], line: &[u8], at: usize) -> bool
+    requires { ⌜ (now table ≡ classes) × (at + 4 ≤ length (now line)) ⌝ }
+    ensures { λ r. ⌜ r ≡ areDigits (now (line .entry)) at 4 ⌝ }
+{
+    chars::is_hex(table, line[at])
+        & chars::is_hex(table, line[at + 1])
+        & chars::is_hex(table, line[at + 2])
+        & chars::is_hex(table, line[at + 3])
+}
+
+// The number that 4 hex digits make.
+fn four(table: &[u8; 256], line: &[u8], at: usize) -> u32
+    requires { ⌜ (now table ≡ classes) × (at + 4 ≤ length (now line)) × (areDigits (now line) at 4 ≡ true) ⌝ }
+    ensures { λ r. ⌜ (r ≡ hexNumber (now (line .entry)) at 4) × (r < 65536) ⌝ }
+{
+    let first = chars::digit_value(table, line[at]) * 16 + chars::digit_value(table, line[at + 1]);
+    let last = chars::digit_value(table, line[at + 2]) * 16
+        + chars::digit_value(table, line[at + 3]);
+    first * 0x100 + last
+}
+
+// The same word. As a rule its space is one byte 32: then the digits are read in a straight line.
+fn next_word(table: &[u8; 256], line: &[u8], at: usize) -> Word
+    requires { ⌜ now table ≡ classes ⌝ }
+    ensures { λ r. ⌜ r ≡ wordAt (now (line .entry)) at ⌝ }
+{
+    if line.len() < 11 {
+        return word_at(table, line, at);
+    }
+    if line.len() - 11 < at {
+        return word_at(table, line, at);
+    }
+    if !(has(line, at, b" 0x") & are_four(table, line, at + 3) & are_four(table, line, at + 7)) {
+        return word_at(table, line, at);
+    }
+    Word::At {
+        value: four(table, line, at + 3) * 0x1_0000 + four(table, line, at + 7),
+        next: at + 11,
+    }
+}
+
+// The words from `at` on, one after the other. The first eight are kept.
+fn words_at(table: &[u8; 256], line: &[u8], at: usize, first: &mut [u32; 8]) -> Words
     requires { ⌜ now table ≡ classes ⌝ }
     ensures { λ r. ⌜ r ≡ wordsAt (now (line .entry)) at ⌝ }
+    ensures { λ r. ⌜ now (first .exit) ≡ keptFrom (now (line .entry)) at (now (first .entry)) ⌝ }
 {
     let mut i = at;
     let mut count: usize = 0;
     loop {
-        let Word::At { value: _, next } = word_at(table, line, i) else {
+        let Word::At { value, next } = next_word(table, line, i) else {
             return Words { count, next: i };
         };
+        if count < 8 {
+            first[count] = value;
+        }
         count += 1;
         i = next;
     }
 }
 
-// 8 hex digits, `:`, one or more words, then nothing but space. The words stand from place 9 on, for `word_at`.
-pub fn stack_line(table: &[u8; 256], line: &[u8]) -> StackLine
+// 8 hex digits, `:`, one or more words, then nothing but space. The words stand from place 9 on, for `word_at`; the first eight are kept, so
+// that most lines are read once.
+pub fn stack_line(table: &[u8; 256], line: &[u8], first: &mut [u32; 8]) -> StackLine
     requires { ⌜ now table ≡ classes ⌝ }
     ensures { λ r. ⌜ r ≡ stackLine (now (line .entry)) ⌝ }
+    ensures { λ r. ⌜ now (first .exit) ≡ keptOf (now (line .entry)) (now (first .entry)) ⌝ }
 {
     let address = hex_run(table, line, 0);
     if address.next != 8 {
@@ -186,7 +236,7 @@ pub fn stack_line(table: &[u8; 256], line: &[u8]) -> StackLine
     if !has(line, 8, b":") {
         return StackLine::Other;
     }
-    let words = words_at(table, line, 9);
+    let words = words_at(table, line, 9, first);
     if words.count == 0 {
         return StackLine::Other;
     }

@@ -4,8 +4,8 @@ use Prim.Native.Nat.{ℕ, zero, suc, _+_, _-_, _*_, _≤_, _<_}
 use mathlib.Core.Path.{_≡_, refl, sym, ap, _∙_, fun-ext}
 use mathlib.Core.Bool.{true≢false, _||_, Bool, true, false, _&&_, cond, and-false, or-true}
 use mathlib.Core.List.{List, [], _∷_}
-use lib.ListN.{length, getD, take, drop, length-drop, drop-of-length-le}
-use lib.Seq.{take-all, take-nil}
+use lib.ListN.{length, getD, set, take, drop, length-set, length-drop, drop-of-length-le}
+use lib.Seq.{take-all, take-nil, getD-set-same, getD-set-other}
 use lib.Dec.{leb, ltb}
 use borrow.Author.Tests.{leb-true, le-leb, lt-leb, ltb-true, ltb-false, lt-ltb, le-ltb}
 use mathlib.Core.Logic.{_⊎_, ⊎-elim}
@@ -13,7 +13,7 @@ use native.Mathlib.Nat.{eq-or-lt-of-le, le-of-suc-le-suc, mul-le-mul-left, mul-l
 use native.Mathlib.Numerals.{add-one, sub-one}
 use native.Mathlib.Omega.{arith}
 use Rattle.words.proofs.Cases.{by-bool}
-use Rattle.words.specs.Words.{within, field, part, sum, all, any, every, firstFrom, howMany, rising}
+use Rattle.words.specs.Words.{within, field, part, sum, all, any, every, firstFrom, storedFrom, howMany, rising}
 
 pub sum-more : (f : ℕ → ℕ) (n : ℕ) → sum (n + 1) f ≡ sum n f + f n
 unfolding sum
@@ -52,6 +52,11 @@ all-none P = refl
 pub all-more : (P : ℕ → Bool) (n : ℕ) → all n P ≡ true → P n ≡ true → all (n + 1) P ≡ true
 unfolding all
 all-more P n a p = rw (add-one, all) (simp (a, p))
+
+-- what holds of each holds of all
+pub all-each : (P : ℕ → Bool) (n : ℕ) → ((k : ℕ) → k < n → P k ≡ true) → all n P ≡ true
+all-each P zero h = all-none P
+all-each P (suc n) h = rw (← add-one) (all-more P n (all-each P n (λ k l. h k (omega arith))) (h n (omega arith)))
 
 -- what holds of all holds of one
 pub all-at : (P : ℕ → Bool) (n k : ℕ) → all n P ≡ true → k < n → P k ≡ true
@@ -304,3 +309,27 @@ module _ (s : List ℕ) (from to : ℕ) where
   pub part-rest : length s ≤ to → take (length s - from) (drop from s) ≡ part s from to
   part-rest h =
       take-all (length s - from) (drop from s) (simp length-drop (omega arith)) ∙ sym (take-all (to - from) (drop from s) (simp length-drop (omega arith)))
+
+-- numbers stored one after the other: one more, the length stays, and each is found where it was stored
+module _ (f : ℕ → ℕ) (l : List ℕ) (to : ℕ) where
+  pub stored-none : storedFrom 0 f l to ≡ l
+  unfolding storedFrom
+  stored-none = refl
+
+  pub stored-more : (n : ℕ) → storedFrom (n + 1) f l to ≡ set (storedFrom n f l to) (to + n) (f n)
+  unfolding storedFrom
+  stored-more n = rw (add-one, storedFrom)
+
+  pub stored-length : (n : ℕ) → length (storedFrom n f l to) ≡ length l
+  unfolding storedFrom
+  stored-length zero = refl
+  stored-length (suc n) = length-set (storedFrom n f l to) (to + n) (f n) ∙ stored-length n
+
+  pub stored-at : (n k : ℕ) → to + n ≤ length l → k < n → getD (storedFrom n f l to) (to + k) 0 ≡ f k
+  unfolding storedFrom
+  stored-at zero k h m = absurd (omega arith)
+  stored-at (suc n) k h m =
+      let r = storedFrom n f l to in
+      ⊎-elim (λ (e : k ≡ n). rw e (getD-set-same r (to + n) (f n) 0 (omega (arith, stored-length n))))
+      (λ (q : k < n). getD-set-other r (to + n) (to + k) (f n) 0 (λ z. absurd (omega arith)) ∙ stored-at n k (omega arith) q)
+      (eq-or-lt-of-le (le-of-suc-le-suc m))

@@ -3,7 +3,7 @@
 use Prim.Native.Nat.{ℕ, zero, suc, _+_, _-_, _*_, _/_, _%_, _^_}
 use mathlib.Core.Bool.{Bool, true, false, _&&_, _||_, cond}
 use mathlib.Core.List.{List, [], _∷_}
-use lib.ListN.{getD, take, drop}
+use lib.ListN.{getD, set, take, drop}
 use lib.Dec.{leb, ltb}
 
 -- addresses are 32-bit
@@ -63,6 +63,11 @@ every (b ∷ bs) = b && every bs
 unfoldable pub firstFrom : (ℕ → Bool) → ℕ → ℕ → ℕ
 firstFrom P zero k = k
 firstFrom P (suc n) k = cond (P k) k (firstFrom P n (k + 1))
+
+-- the list with f 0, f 1, .., n of them, from place `to` on
+unfoldable pub storedFrom : ℕ → (ℕ → ℕ) → List ℕ → ℕ → List ℕ
+storedFrom zero f l to = l
+storedFrom (suc n) f l to = set (storedFrom n f l to) (to + n) (f n)
 
 -- of how many of 0 .. n - 1 P holds
 unfoldable pub howMany : ℕ → (ℕ → Bool) → ℕ

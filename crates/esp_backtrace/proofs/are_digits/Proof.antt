@@ -2,7 +2,7 @@
 use Prim.Native.Nat.{_-_, _≤_}
 use mathlib.Core.Path.{_≡_, sym}
 use Rattle.words.proofs.Laws.{all-none}
-use Rattle.esp_backtrace.specs.Radix.{areDigits}
+use Rattle.scan.specs.Places.{areDigits}
 use Rattle.esp_backtrace.proofs.Pairs.{digits-more}
 use borrow.Author.Needs.{needs}
 use native.Mathlib.Omega.{arith}

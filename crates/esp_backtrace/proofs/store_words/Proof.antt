@@ -3,8 +3,8 @@ use Prim.Native.Nat.{_+_, _-_, _*_, _/_, _≤_}
 use mathlib.Core.Path.{_≡_, sym, ap, _∙_}
 use native.Mathlib.Nat.{zero-add}
 use lib.ListN.{length}
-use Rattle.memory.specs.Push.{storedFrom}
-use Rattle.memory.proofs.Ways.{stored-none, stored-more, stored-length}
+use Rattle.words.specs.Words.{storedFrom}
+use Rattle.words.proofs.Laws.{stored-none, stored-more, stored-length}
 use Rattle.esp_backtrace.specs.Parse.{littleAt}
 use Rattle.esp_backtrace.proofs.Pairs.{word-pairs}
 use borrow.Author.Needs.{needs}

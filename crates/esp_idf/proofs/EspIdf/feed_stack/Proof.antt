@@ -1,8 +1,7 @@
 -- `esp_idf::EspIdf::feed_stack` meets its contract. Assumes nothing.
 use mathlib.Core.Path.{sym, _∙_}
 use Rattle.memory.proofs.Ways.{fit-room, told-full, told-grown}
-use Rattle.scan.proofs.Told.{told-count}
-use native.Mathlib.Omega.{arith}
+use Rattle.scan.proofs.Told.{told-count, told-kept}
 use borrow.Author.Needs.{needs}
 use Rattle.esp_idf.proofs.EspIdf.feed_stack.Statement.{statement}
 use Rattle.esp_idf.proofs.EspIdf.feed_stack.Tie as tie
@@ -20,7 +19,7 @@ finish-requires : tie.Need-finish-requires
 finish-requires c κs = search needs
 
 returns : tie.Need-returns
-returns c = let z = sym (c .before .enum-told .given .1) ∙ c .before .before .before .stack-line .ensures in (rw (← z) (c .finish .ensures), (rw (← z), rw (← z)))
+returns c = let z = sym (c .before .enum-told .given .1) ∙ c .before .before .before .stack-line .ensures .0 in (rw (← z) (c .finish .ensures), (rw (← z), rw (← z)))
 
 push-requires : tie.Need-push-requires
 push-requires c κs = search needs
@@ -38,14 +37,14 @@ same-length : tie.Need-same-length
 same-length c = search needs
 
 returns-2 : tie.Need-returns-2
-returns-2 c = let z = sym (c .before .before .before .before .before .before .before .before .before .address .given .1) ∙ c .before .before .before .before .before .before .before .before .before .before .before .stack-line .ensures in
+returns-2 c = let z = sym (c .before .before .before .before .before .before .before .before .before .address .given .1) ∙ c .before .before .before .before .before .before .before .before .before .before .before .stack-line .ensures .0 in
     let p = sym (c .before .enum-told2 .given .1) ∙ c .before .before .before .before .before .push .ensures .0 in
     (rw (← z, ← p) (c .without-dump .ensures), (rw (← z, told-full _ _ _ _ _ p), rw (← z) (c .before .before .before .before .before .push .ensures .1)))
 
-store-words-requires : tie.Need-store-words-requires
-store-words-requires c κs = let z = sym (c .before .before .before .before .before .before .before .before .before .before .address .given .1) ∙ c .before .before .before .before .before .before .before .before .before .before .before .before .stack-line .ensures in
-    let p = sym (c .before .before .stack .given .1) ∙ c .before .before .before .before .before .before .push .ensures .0 in
-    (c .before .before .before .before .before .before .before .before .before .before .before .before .before .before .before .before .pre, omega (arith, told-count _ _ _ z), fit-room _ _ _ _ _ (told-grown _ _ _ _ _ _ p))
+store-requires : tie.Need-store-requires
+store-requires c κs = let z = sym (c .before .before .before .before .before .before .before .before .before .before .before .address .given .1) ∙ c .before .before .before .before .before .before .before .before .before .before .before .before .before .stack-line .ensures .0 in
+    let p = sym (c .before .before .before .stack .given .1) ∙ c .before .before .before .before .before .before .before .push .ensures .0 in
+    (c .before .before .before .before .before .before .before .before .before .before .before .before .before .before .before .before .before .before .pre, told-count _ _ _ z, c .before .before .before .before .before .before .before .before .before .before .before .before .before .stack-line .ensures .1 ∙ told-kept _ _ _ z _, fit-room _ _ _ _ _ (told-grown _ _ _ _ _ _ p))
 
 grown-to-requires : tie.Need-grown-to-requires
 grown-to-requires c κs = search needs
@@ -60,9 +59,9 @@ same-length-3 : tie.Need-same-length-3
 same-length-3 c = search needs
 
 returns-3 : tie.Need-returns-3
-returns-3 c = let z = sym (c .before .before .before .before .before .before .before .before .before .before .before .before .before .before .before .address .given .1) ∙ c .before .before .before .before .before .before .before .before .before .before .before .before .before .before .before .before .before .stack-line .ensures in
-    let p = sym (c .before .before .before .before .before .before .before .stack .given .1) ∙ c .before .before .before .before .before .before .before .before .before .before .before .push .ensures .0 in
-    (rw (← z, ← p, ← c .before .grown-to .ensures) (c .without-dump2 .ensures), (rw (← z, told-grown _ _ _ _ _ _ p) (c .before .before .before .before .store-words .ensures), rw (← z) (c .before .before .before .before .before .before .before .before .before .before .before .push .ensures .1)))
+returns-3 c = let z = sym (c .before .before .before .before .before .before .before .before .before .before .before .before .before .before .before .before .address .given .1) ∙ c .before .before .before .before .before .before .before .before .before .before .before .before .before .before .before .before .before .before .stack-line .ensures .0 in
+    let p = sym (c .before .before .before .before .before .before .before .before .stack .given .1) ∙ c .before .before .before .before .before .before .before .before .before .before .before .before .push .ensures .0 in
+    (rw (← z, ← p, ← c .before .grown-to .ensures) (c .without-dump2 .ensures), (rw (← z, told-grown _ _ _ _ _ _ p) (c .before .before .before .before .store .ensures), rw (← z) (c .before .before .before .before .before .before .before .before .before .before .before .before .push .ensures .1)))
 
 pub feed-stack-spec : {M : Type 1} → statement M
 feed-stack-spec =
@@ -79,7 +78,7 @@ feed-stack-spec =
     without-dump-requires
     same-length
     returns-2
-    store-words-requires
+    store-requires
     grown-to-requires
     without-dump-requires-2
     same-length-2
