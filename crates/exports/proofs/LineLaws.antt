@@ -96,7 +96,7 @@ module _ (s w : List ℕ) (t : StackTop) (h : Handed) (c : EspIdf) (f : Fed) (l 
       → handed 0 l st rg vs tk an (h .dump) (h .dumpValues) (h .held) ≡ fedOver s (topIn w) h
   line-data st rg vs tk an z p = rw (p .0, p .1, p .2, p .3, p .4) (rw z at back)
 
-  pub line-complete : (x : Holder) (n : ℕ) (st rg vs tk an dm hd : List ℕ) → f .line ≡ line.Complete x → n ≡ completeNumber x → Told n st rg vs tk an
-      → dm ≡ registerWords (f .registers) → hd ≡ memoryWords (f .memory)
-      → handed 0 l st rg vs tk an dm (f .registers .values) hd ≡ fedOver s (topIn w) h
-  line-complete x n st rg vs tk an dm hd z m p d g = rw (p .0, p .1, p .2, p .3, p .4, m, d, g) (rw z at back)
+  pub line-complete : (x : Holder) (n : ℕ) (st rg vs tk an dm dv hd : List ℕ) → f .line ≡ line.Complete x → n ≡ completeNumber x → Told n st rg vs tk an
+      → dm ≡ registerWords (f .registers) → dv ≡ f .registers .values → hd ≡ memoryWords (f .memory)
+      → handed 0 l st rg vs tk an dm dv hd ≡ fedOver s (topIn w) h
+  line-complete x n st rg vs tk an dm dv hd z m p d v g = rw (p .0, p .1, p .2, p .3, p .4, m, d, v, g) (rw z at back)

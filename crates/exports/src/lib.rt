@@ -271,6 +271,22 @@ fn hand_back(
     *answer = [number];
 }
 
+// Hands a finished dump over: its registers, and how much of the lent lists is its own.
+fn hand_dump(
+    known: Registers,
+    memory: StackMemory,
+    dump: &mut [u32; 4],
+    dump_values: &mut [u32; 32],
+    held: &mut [u64; 2],
+)
+    ensures { λ _. ⌜ (now (dump .exit) ≡ registerWords known) × (now («dump_values» .exit) ≡ known .values) × (now (held .exit) ≡ memoryWords memory) ⌝ }
+{
+    *dump = register_words(known);
+    let words = known.values;
+    *dump_values = words;
+    *held = memory_words(memory);
+}
+
 // What a line that completed a dump is.
 fn complete_number(holder: Holder) -> u32
     ensures { λ r. ⌜ r ≡ completeNumber holder ⌝ }
@@ -335,11 +351,7 @@ pub extern "C" fn jurddavik_feed(
                 answer,
             );
             let known = fed.registers;
-            let memory = fed.memory;
-            *dump = register_words(known);
-            let words = known.values;
-            *dump_values = words;
-            *held = memory_words(memory);
+            hand_dump(known, fed.memory, dump, dump_values, held);
             0
         }
     }

@@ -40,11 +40,8 @@ complete-number-requires c κs = search needs
 hand-back-requires-3 : tie.Need-hand-back-requires-3
 hand-back-requires-3 c κs = search needs
 
-register-words-requires : tie.Need-register-words-requires
-register-words-requires c κs = search needs
-
-memory-words-requires : tie.Need-memory-words-requires
-memory-words-requires c κs = search needs
+hand-dump-requires : tie.Need-hand-dump-requires
+hand-dump-requires c κs = search needs
 
 same-length : tie.Need-same-length
 same-length c = search needs
@@ -104,7 +101,7 @@ same-length-16 : tie.Need-same-length-16
 same-length-16 c = search needs
 
 returns-4 : tie.Need-returns-4
-returns-4 c = line-complete _ _ _ _ _ _ _ (c .before .before .before .before .before .before .before .before .before .before .before .before .before .before .before .before .before .before .before .before .before .before .before .before .before .before .before .before .before .before .before .collector-in .ensures) (c .before .before .before .before .before .before .before .before .before .before .before .before .before .before .before .before .before .before .before .before .before .before .before .before .before .before .before .before .before .top-in .ensures) (c .before .before .before .before .before .before .before .before .before .before .before .before .before .before .before .before .before .before .before .before .before .before .before .before .feed .ensures) _ _ _ _ _ _ _ _ _ (c .before .before .before .before .before .before .before .before .before .before .before .before .before .kind2 .given .1) (c .before .before .before .before .before .before .before .before .before .before .before .complete-number .ensures) (c .before .before .before .before .before .hand-back3 .ensures) (c .before .before .register-words .ensures) (c .memory-words .ensures)
+returns-4 c = line-complete _ _ _ _ _ _ _ (c .before .before .before .before .before .before .before .before .before .before .before .before .before .before .before .before .before .before .before .before .before .before .before .before .before .before .before .before .before .before .before .collector-in .ensures) (c .before .before .before .before .before .before .before .before .before .before .before .before .before .before .before .before .before .before .before .before .before .before .before .before .before .before .before .before .before .top-in .ensures) (c .before .before .before .before .before .before .before .before .before .before .before .before .before .before .before .before .before .before .before .before .before .before .before .before .feed .ensures) _ _ _ _ _ _ _ _ _ _ (c .before .before .before .before .before .before .before .before .before .before .before .before .before .kind2 .given .1) (c .before .before .before .before .before .before .before .before .before .before .before .complete-number .ensures) (c .before .before .before .before .before .hand-back3 .ensures) (c .hand-dump .ensures .0) (c .hand-dump .ensures .1) (c .hand-dump .ensures .2)
 
 pub jurddavik-feed-spec : {M : Type 1} → statement M
 jurddavik-feed-spec =
@@ -122,8 +119,7 @@ jurddavik-feed-spec =
     enum-known-kind-2
     complete-number-requires
     hand-back-requires-3
-    register-words-requires
-    memory-words-requires
+    hand-dump-requires
     same-length
     same-length-2
     same-length-3
