@@ -20,7 +20,8 @@ use Rattle.calls.specs.declared.Listing.the-variants.{Other}
 use Rattle.calls.specs.Listing.{Out, spent, ok, andThen, Listed, noted, straight, calls, sizeOf, firstOf, listingBy, listingOf}
 use Rattle.calls.proofs.Turns.{size-is, size-not, calls-end, calls-stuck, calls-broke, calls-visit}
 use Rattle.search.specs.Search.{Link, one, linkAt, follow, throughCalls, chain}
-use Rattle.search.specs.Answers.{followCall, onwardOf, settledBy, withLink, searchedOf}
+use Rattle.search.specs.Answers.{followCall, onwardOf, settledBy, noneFailed, listedIn, withLink, searchedOf}
+use Rattle.search.specs.declared.Failed.{Failed}
 use Rattle.search.specs.declared.Onward.{Onward}
 use Rattle.search.specs.declared.Onward.the-variants.{To, No}
 use Rattle.search.specs.declared.Outcome.the-variants as outcome
@@ -148,7 +149,7 @@ module _ (row : ℕ → Option View) (cb : ℕ → Call) (sz : ℕ → Option �
       go (ok fs k) t = by-option (straight target fs) (λ h. rw (h, andThen) (t fs k)) (λ ra h. rw (h, andThen) (one-sized row ra k (suc d)))
 
   -- at depth 0, and where the listing has a straight call or is spent, the listing settles the search
-  pub chain-zero : (depth target start end l : ℕ) (x : Listing) → depth ≡ 0 → x ≡ listingOf target (calls cb sz l end start)
+  chain-zero : (depth target start end l : ℕ) (x : Listing) → depth ≡ 0 → x ≡ listingOf target (calls cb sz l end start)
       → chain row cb sz depth target start end l ≡ settledBy row x
   unfolding chain andThen
   chain-zero depth target start end l x z e = rw (z, e) (go (calls cb sz l end start))
@@ -168,71 +169,86 @@ module _ (row : ℕ → Option View) (cb : ℕ → Call) (sz : ℕ → Option �
       go spent m = refl
       go (ok fs k) m = by-option (straight target fs) (λ h. absurd (m k (rw h))) (λ ra h. rw (h, andThen))
 
-  module _ (depth target start end allowance : ℕ) where
+  pub chain-none : (depth target start end l after : ℕ) (x : Listing) → depth ≡ 0 → x ≡ listingOf target (calls cb sz l end start) → x ≡ Other after
+      → ok none after ≡ chain row cb sz depth target start end l
+  chain-none depth target start end l after x z e h = sym (chain-zero depth target start end l x z e ∙ ap (λ (y : Listing). settledBy row y) h)
+
+  started : (depth target start end l after : ℕ) (fs : List Listed) → ¬ (depth ≡ 0) → calls cb sz l end start ≡ ok fs after → straight target fs ≡ none
+      → throughCalls row (chain row cb sz (depth - 1) target) fs after ≡ chain row cb sz depth target start end l
+  unfolding chain andThen
+  started zero target start end l after fs z q h = absurd (z refl)
+  started (suc d) target start end l after fs z q h = let m : suc d - 1 ≡ d = omega arith in rw (m, chain, q, andThen, h)
+
+  -- a listing without a straight call, at a depth: its calls are gone through
+  pub record Through (depth target start end l after : ℕ) : Type 0 where
+    pub upto : after ≤ l
+    pub walks : calls cb sz (l - after) end start ≡ ok (listedIn (calls cb sz (l - after) end start)) 0
+    pub rest : throughCalls row (chain row cb sz (depth - 1) target) (listedIn (calls cb sz (l - after) end start)) after ≡ chain row cb sz depth target start end l
+
+  pub chain-through : (depth target start end l after : ℕ) (x : Listing) → ¬ (depth ≡ 0) → x ≡ listingOf target (calls cb sz l end start) → x ≡ Other after
+      → Through depth target start end l after
+  chain-through depth target start end l after x z e h = go (calls cb sz l end start) refl
+    where
+      go : (o : Out (List Listed)) → calls cb sz l end start ≡ o → Through depth target start end l after
+      go spent q = absurd (let z : _≡_ {A = ℕ} 0 1 = cc in omega arith)
+      go (ok fs k) q =
+          let y : listingBy (firstOf (straight target fs)) k ≡ Other after = sym (ap (λ (o : Out (List Listed)). listingOf target o) q) ∙ sym e ∙ h in
+          by-option (straight target fs)
+          (λ g. let v : k ≡ after = cc in
+          let t : Cost (λ m. calls cb sz m end start) l after fs = calls-steady cb sz end start l after fs (q ∙ ap (λ (w : ℕ). ok fs w) v) in
+          let u : l ≡ t .cost + after = t .sum in
+          let m : l - after ≡ t .cost + 0 = omega arith in
+          let w : calls cb sz (l - after) end start ≡ ok fs 0 = rw m (t .takes .enough 0) in
+          record { upto = omega arith; walks = rw w; rest = rw w (started depth target start end l after fs z (q ∙ ap (λ (w : ℕ). ok fs w) v) g) })
+          (λ ra g. absurd (let z : _≡_ {A = ℕ} 0 1 = cc in omega arith))
+
+  -- going through calls by a search of so many functions deep, which comes to `goal`
+  module _ (d target stop : ℕ) (goal : Out (Option (List Link))) where
+    abbrev deeper : ℕ → ℕ → ℕ → Out (Option (List Link))
+    deeper = chain row cb sz d target
+
     -- what is still to be tried: the calls from pc on, `todo` instructions, with `left` of the allowance
     pub record Ahead (todo pc left : ℕ) : Type 0 where
       pub fs : List Listed
-      pub walks : calls cb sz todo end pc ≡ ok fs 0
-      pub rest : throughCalls row (chain row cb sz (depth - 1) target) fs left ≡ chain row cb sz depth target start end allowance
+      pub walks : calls cb sz todo stop pc ≡ ok fs 0
+      pub rest : throughCalls row deeper fs left ≡ goal
 
     -- one instruction on
     record Turn (todo left ra : ℕ) : Type 0 where
       fs : List Listed
-      walks : calls cb sz (todo - 1) end ra ≡ ok fs 0
-      rest : on-from row (chain row cb sz (depth - 1) target) (followCall row ra (cb ra)) fs left ≡ chain row cb sz depth target start end allowance
+      walks : calls cb sz (todo - 1) stop ra ≡ ok fs 0
+      rest : on-from row deeper (followCall row ra (cb ra)) fs left ≡ goal
 
-    started : (n : ℕ) (fs : List Listed) (k : ℕ) → ¬ (n ≡ 0) → calls cb sz allowance end start ≡ ok fs k → straight target fs ≡ none
-        → throughCalls row (chain row cb sz (n - 1) target) fs k ≡ chain row cb sz n target start end allowance
-    unfolding chain andThen
-    started zero fs k z q h = absurd (z refl)
-    started (suc d) fs k z q h = let m : suc d - 1 ≡ d = omega arith in rw (m, chain, q, andThen, h)
-
-    pub ahead-start : (after : ℕ) (x : Listing) → ¬ (depth ≡ 0) → x ≡ listingOf target (calls cb sz allowance end start) → x ≡ Other after
-        → (after ≤ allowance) × Ahead (allowance - after) start after
-    ahead-start after x z e h = go (calls cb sz allowance end start) refl
-      where
-        go : (o : Out (List Listed)) → calls cb sz allowance end start ≡ o → (after ≤ allowance) × Ahead (allowance - after) start after
-        go spent q = absurd (let z : _≡_ {A = ℕ} 0 1 = cc in omega arith)
-        go (ok fs k) q =
-            let y : listingBy (firstOf (straight target fs)) k ≡ Other after = sym (ap (λ (o : Out (List Listed)). listingOf target o) q) ∙ sym e ∙ h in
-            by-option (straight target fs)
-            (λ g. let v : k ≡ after = cc in
-            let t : Cost (λ l. calls cb sz l end start) allowance after fs = calls-steady cb sz end start allowance after fs (q ∙ ap (λ (w : ℕ). ok fs w) v) in
-            let u : allowance ≡ t .cost + after = t .sum in
-            let m : allowance - after ≡ t .cost + 0 = omega arith in
-            (omega arith, record { fs = fs; walks = rw m (t .takes .enough 0); rest = started depth fs after z (q ∙ ap (λ (w : ℕ). ok fs w) v) g }))
-            (λ ra g. absurd (let z : _≡_ {A = ℕ} 0 1 = cc in omega arith))
-
-    pub ahead-end : (todo pc left : ℕ) → Ahead todo pc left → todo ≤ 0 → ok none left ≡ chain row cb sz depth target start end allowance
+    pub ahead-end : (todo pc left : ℕ) → Ahead todo pc left → todo ≤ 0 → ok none left ≡ goal
     unfolding throughCalls
     ahead-end todo pc left a h =
         let z : todo ≡ 0 = omega arith in
-        ap (λ (gs : List Listed). throughCalls row (chain row cb sz (depth - 1) target) gs left) (sym (none-listed cb sz todo end pc (a .fs) z (a .walks))) ∙ a .rest
+        ap (λ (gs : List Listed). throughCalls row deeper gs left) (sym (none-listed cb sz todo stop pc (a .fs) z (a .walks))) ∙ a .rest
 
     -- going on over instructions that list nothing
-    pub ahead-on : (todo pc left later from : ℕ) → Ahead todo pc left → calls cb sz later end from ≡ calls cb sz todo end pc → Ahead later from left
+    pub ahead-on : (todo pc left later from : ℕ) → Ahead todo pc left → calls cb sz later stop from ≡ calls cb sz todo stop pc → Ahead later from left
     ahead-on todo pc left later from a e = record { fs = a .fs; walks = e ∙ a .walks; rest = a .rest }
 
     pub ahead-reads : (todo pc left : ℕ) → Ahead todo pc left → 0 < todo → sizeOf (sz pc) ≡ Unreadable → ⊥
     ahead-reads todo pc left a h u =
-        let k : todo ≡ 0 = by-bool (ltb pc end)
-        (λ t. ok-snd [] (a .fs) todo 0 (sym (calls-stuck cb sz todo end pc t (size-not (sz pc) u)) ∙ a .walks))
-        (λ t. ok-snd [] (a .fs) todo 0 (sym (calls-end cb sz todo end pc t) ∙ a .walks)) in
+        let k : todo ≡ 0 = by-bool (ltb pc stop)
+        (λ t. ok-snd [] (a .fs) todo 0 (sym (calls-stuck cb sz todo stop pc t (size-not (sz pc) u)) ∙ a .walks))
+        (λ t. ok-snd [] (a .fs) todo 0 (sym (calls-end cb sz todo stop pc t) ∙ a .walks)) in
         omega arith
 
     ahead-turn : (todo pc left n : ℕ) → Ahead todo pc left → 0 < todo → sizeOf (sz pc) ≡ Is n → Turn todo left (plus pc n)
     ahead-turn zero pc left n a h u = absurd (omega arith)
     ahead-turn (suc t) pc left n a h u =
-        by-bool (ltb pc end)
-        (λ l. let i : Inside (noted (plus pc n) (cb (plus pc n))) (calls cb sz t end (plus pc n)) (a .fs) 0 = inside _ _ (a .fs) 0 (sym (calls-visit cb sz t end pc n l (size-is (sz pc) n u)) ∙ a .walks) in
+        by-bool (ltb pc stop)
+        (λ l. let i : Inside (noted (plus pc n) (cb (plus pc n))) (calls cb sz t stop (plus pc n)) (a .fs) 0 = inside _ _ (a .fs) 0 (sym (calls-visit cb sz t stop pc n l (size-is (sz pc) n u)) ∙ a .walks) in
         let m : suc t - 1 ≡ t = omega arith in
         record {
           fs = i .inner;
           walks = rw m (i .was);
-          rest = sym (through-noted row (chain row cb sz (depth - 1) target) (plus pc n) (cb (plus pc n)) (i .inner) left)
-              ∙ ap (λ (gs : List Listed). throughCalls row (chain row cb sz (depth - 1) target) gs left) (sym (i .made)) ∙ a .rest;
+          rest = sym (through-noted row deeper (plus pc n) (cb (plus pc n)) (i .inner) left)
+              ∙ ap (λ (gs : List Listed). throughCalls row deeper gs left) (sym (i .made)) ∙ a .rest;
         })
-        (λ l. absurd (let k : suc t ≡ 0 = ok-snd [] (a .fs) (suc t) 0 (sym (calls-end cb sz (suc t) end pc l) ∙ a .walks) in omega arith))
+        (λ l. absurd (let k : suc t ≡ 0 = ok-snd [] (a .fs) (suc t) 0 (sym (calls-end cb sz (suc t) stop pc l) ∙ a .walks) in omega arith))
 
     module _ (todo pc left n ra : ℕ) (a : Ahead todo pc left) (h : 0 < todo) (u : sizeOf (sz pc) ≡ Is n) (w : ra ≡ plus pc n) (x : Onward) (f : x ≡ onwardOf (followCall row ra (cb ra))) where
       turned : Turn todo left ra
@@ -245,17 +261,17 @@ module _ (row : ℕ → Option View) (cb : ℕ → Call) (sz : ℕ → Option �
           (λ q. record { fs = t .fs; walks = t .walks; rest = rw q at (t .rest) })
           (λ kr q. absurd (let z : _≡_ {A = ℕ} 0 1 = cc in omega arith))
 
-      module _ (s e off d : ℕ) (to : x ≡ To s e off) (less : d ≡ depth - 1) (r : Searched) (g : r ≡ searchedOf (chain row cb sz d target s e left)) where
+      module _ (s e off : ℕ) (to : x ≡ To s e off) (r : Searched) (g : r ≡ searchedOf (deeper s e left)) where
         abbrev below : Out (Option (List Link))
-        below = chain row cb sz d target s e left
+        below = deeper s e left
 
         -- the turn, where the search below has been made
         record Made : Type 0 where
           kr : Link × View
           link : kr .0 ≡ record { ra = ra; off = off }
           fs : List Listed
-          walks : calls cb sz (todo - 1) end ra ≡ ok fs 0
-          rest : on-by row (chain row cb sz (depth - 1) target) kr fs below ≡ chain row cb sz depth target start end allowance
+          walks : calls cb sz (todo - 1) stop ra ≡ ok fs 0
+          rest : on-by row deeper kr fs below ≡ goal
 
         made : Made
         made =
@@ -271,33 +287,31 @@ module _ (row : ℕ → Option View) (cb : ℕ → Call) (sz : ℕ → Option �
               link = follow-ra row (cb ra) ra kr q ∙ ap (λ (v : ℕ). record { ra = ra; off = v }) o;
               fs = t .fs;
               walks = t .walks;
-              rest = sym (on-out row (chain row cb sz (depth - 1) target) kr (t .fs) left below
-                  (ap (λ (v : ℕ). chain row cb sz (depth - 1) target v (kr .1 .end) left) y
-                  ∙ ap (λ (v : ℕ). chain row cb sz (depth - 1) target s v left) z
-                  ∙ ap (λ (v : ℕ). chain row cb sz v target s e left) (sym less))) ∙ (rw q at (t .rest));
+              rest = sym (on-out row deeper kr (t .fs) left below
+                  (ap (λ (v : ℕ). deeper v (kr .1 .end) left) y ∙ ap (λ (v : ℕ). deeper s v left) z)) ∙ (rw q at (t .rest));
             })
 
-        by-below : (m : Made) (o : Out (Option (List Link))) → below ≡ o → on-by row (chain row cb sz (depth - 1) target) (m .kr) (m .fs) o ≡ chain row cb sz depth target start end allowance
-        by-below m o q = ap (λ (v : Out (Option (List Link))). on-by row (chain row cb sz (depth - 1) target) (m .kr) (m .fs) v) (sym q) ∙ m .rest
+        by-below : (m : Made) (o : Out (Option (List Link))) → below ≡ o → on-by row deeper (m .kr) (m .fs) o ≡ goal
+        by-below m o q = ap (λ (v : Out (Option (List Link))). on-by row deeper (m .kr) (m .fs) v) (sym q) ∙ m .rest
 
         pub ahead-miss : r .outcome ≡ outcome.Missing → Ahead (todo - 1) ra (r .left)
         ahead-miss m = let t : Made = made in record { fs = t .fs; walks = t .walks; rest = by-below t (ok none (r .left)) (was-missing r below g m) }
 
         -- where the function below has failed before
-        module _ (cost : ℕ) (took : Takes (λ l. chain row cb sz d target s e l) cost none) where
+        module _ (cost : ℕ) (took : Takes (λ l. deeper s e l) cost none) where
           pub ahead-again : cost ≤ left → Ahead (todo - 1) ra (left - cost)
           ahead-again i =
               let t : Made = made in
               let v : left ≡ cost + (left - cost) = omega arith in
-              record { fs = t .fs; walks = t .walks; rest = by-below t (ok none (left - cost)) (ap (λ (l : ℕ). chain row cb sz d target s e l) v ∙ took .enough (left - cost)) }
+              record { fs = t .fs; walks = t .walks; rest = by-below t (ok none (left - cost)) (ap (λ (l : ℕ). deeper s e l) v ∙ took .enough (left - cost)) }
 
-          pub ahead-spent : left < cost → searchedOf spent ≡ searchedOf (chain row cb sz depth target start end allowance)
+          pub ahead-spent : left < cost → searchedOf spent ≡ searchedOf goal
           ahead-spent i = ap searchedOf (by-below made spent (took .less left i))
 
-        pub ahead-done : (r .outcome ≡ outcome.Missing → ⊥) → withLink r ra off ≡ searchedOf (chain row cb sz depth target start end allowance)
+        pub ahead-done : (r .outcome ≡ outcome.Missing → ⊥) → withLink r ra off ≡ searchedOf goal
         ahead-done n = go below refl
           where
-            go : (o : Out (Option (List Link))) → below ≡ o → withLink r ra off ≡ searchedOf (chain row cb sz depth target start end allowance)
+            go : (o : Out (Option (List Link))) → below ≡ o → withLink r ra off ≡ searchedOf goal
             go spent q = ap (λ (v : Searched). withLink v ra off) (g ∙ ap searchedOf q) ∙ ap searchedOf (by-below made spent q)
             go (ok none l) q = absurd (n (ap (λ (v : Searched). v .outcome) (g ∙ ap searchedOf q)))
             go (ok (some ks) l) q =
@@ -315,9 +329,9 @@ module _ (row : ℕ → Option View) (cb : ℕ → Call) (sz : ℕ → Option �
       let v : left - r .left ≡ t .cost = omega arith in
       (omega arith, rw v (t .takes))
 
-  pub failed-none : (d target : ℕ) → Takes (λ l. chain row cb sz d target 0 0 l) 0 none
+  pub failed-none : (d target : ℕ) (f : Failed) → f ≡ noneFailed → Takes (λ l. chain row cb sz d target (f .start) (f .end) l) (f .cost) none
   unfolding chain andThen straight throughCalls
-  failed-none d target = record { enough = λ m. ap (λ (l : ℕ). chain row cb sz d target 0 0 l) (let v : 0 + m ≡ m = omega arith in v) ∙ go d m; less = λ m h. absurd (omega arith) }
+  failed-none d target f q = rw q record { enough = λ m. ap (λ (l : ℕ). chain row cb sz d target 0 0 l) (let v : 0 + m ≡ m = omega arith in v) ∙ go d m; less = λ m h. absurd (omega arith) }
     where
       go : (d m : ℕ) → chain row cb sz d target 0 0 m ≡ ok none m
       go zero m = rw (chain, calls-end cb sz m 0 0 refl)

@@ -10,7 +10,7 @@ use Rattle.calls.specs.declared.Call.{Call}
 use Rattle.calls.specs.declared.Call.the-variants.{None, Indirect, Direct}
 use Rattle.calls.specs.declared.Listing.{Listing}
 use Rattle.calls.specs.declared.Listing.the-variants as listing
-use Rattle.calls.specs.Listing.{Out, spent, ok}
+use Rattle.calls.specs.Listing.{Out, spent, ok, Listed}
 use Rattle.registers.specs.Registers.{newOf}
 use Rattle.search.specs.Search.{Link, one, linkAt, follow}
 use Rattle.search.specs.Recover.{Fit, regained}
@@ -22,6 +22,7 @@ use Rattle.search.specs.declared.RuleAt.{RuleAt}
 use Rattle.search.specs.declared.RuleAt.the-variants as rule
 use Rattle.search.specs.declared.LinkAt.{LinkAt}
 use Rattle.search.specs.declared.LinkAt.the-variants as link
+use Rattle.search.specs.declared.Failed.{Failed}
 use Rattle.search.specs.declared.Onward.{Onward}
 use Rattle.search.specs.declared.Onward.the-variants.{To, No}
 
@@ -29,6 +30,15 @@ use Rattle.search.specs.declared.Onward.the-variants.{To, No}
 unfoldable pub linksOf : List Link → List ℕ
 linksOf [] = replicate 18 0
 linksOf (k ∷ ks) = set (set (linksOf ks) (2 * length ks) (k .ra)) (2 * length ks + 1) (k .off)
+
+-- no function has failed yet: the search of an empty range fails, and takes nothing
+abbrev pub noneFailed : Failed
+noneFailed = record { start = 0; end = 0; cost = 0 }
+
+-- the calls of a listing
+abbrev pub listedIn : Out (List Listed) → List Listed
+listedIn spent = []
+listedIn (ok fs l) = fs
 
 -- a search that found no chain
 abbrev pub noChain : Outcome → ℕ → Searched

@@ -3,6 +3,7 @@
 use calls::Call;
 use calls::Listing;
 use calls::Size;
+use calls::Spot;
 use memory::Word;
 use registers::Registers;
 use rows::Found;
@@ -17,12 +18,12 @@ ghost use Rattle.book.specs.Good.{bookIsGood};
 ghost use Rattle.rows.specs.View.{viewAt, ruleList};
 ghost use Rattle.code.specs.Code.{codeOf, codeIsGood};
 ghost use Rattle.calls.specs.Call.{callBefore};
-ghost use Rattle.calls.specs.Listing.{sizeAt, ok, andThen};
+ghost use Rattle.calls.specs.Listing.{sizeAt, ok, andThen, calls as callsOf};
 ghost use Rattle.memory.specs.Memory.{memoryOf, memoryIsGood, readAt};
 ghost use Rattle.registers.specs.Registers.{newOf, setOf, placed};
-ghost use Rattle.search.specs.Search.{linkAt, chain};
+ghost use Rattle.search.specs.Search.{linkAt, throughCalls, chain};
 ghost use Rattle.search.specs.Recover.{ruleFor, inner, refill as refilled, meetsIf, scan};
-ghost use Rattle.search.specs.Answers.{ruleMade, ruleOf, linkOf, followCall, onwardOf, settledBy, noChain, withLink, searchedOf, linksIn, foundIn, Whole, noCaller, recoveredOf};
+ghost use Rattle.search.specs.Answers.{ruleMade, ruleOf, linkOf, followCall, onwardOf, settledBy, noneFailed, noChain, withLink, searchedOf, listedIn, linksIn, foundIn, Whole, noCaller, recoveredOf};
 
 // How a search ended.
 pub enum Outcome {
@@ -134,6 +135,26 @@ fn follow(
     }
 }
 
+// A function that failed: its range, and what its search takes of the allowance.
+struct Failed {
+    start: u32,
+    end: u32,
+    cost: u32,
+}
+
+impl Failed {
+    // None has failed: a range without instructions is searched for nothing.
+    fn none() -> Failed
+        ensures { λ r. ⌜ r ≡ noneFailed ⌝ }
+    {
+        Failed {
+            start: 0,
+            end: 0,
+            cost: 0,
+        }
+    }
+}
+
 impl Searched {
     // A search that found none.
     fn no_chain(outcome: Outcome, left: u32) -> Searched
@@ -193,9 +214,69 @@ fn settled(
     }
 }
 
+// The first chain through one of the calls of as many instructions as the spot says, which a listing up to stop has gone through.
+fn through_calls(
+    tables: &[u32],
+    functions: &[u32],
+    rows: &[u32],
+    rules: &[u32],
+    sections: &[u32],
+    code: &[u8],
+    spot: Spot,
+    stop: u32,
+    target: u32,
+    depth: u32,
+    allowance: u32,
+) -> Searched
+    requires { ⌜ (depth ≤ 7) × (bookIsGood (bookOf (now tables) (now functions) (now rows) (now rules)) ≡ true) × (codeIsGood (codeOf (now sections) (now code)) ≡ true) × (callsOf (callBefore (codeOf (now sections) (now code))) (sizeAt (codeOf (now sections) (now code))) (spot .left) stop (spot .pc) ≡ ok (listedIn (callsOf (callBefore (codeOf (now sections) (now code))) (sizeAt (codeOf (now sections) (now code))) (spot .left) stop (spot .pc))) 0) ⌝ }
+    ensures { λ r. ⌜ r ≡ searchedOf (throughCalls (viewAt (bookOf (now (tables .entry)) (now (functions .entry)) (now (rows .entry)) (now (rules .entry)))) (chain (viewAt (bookOf (now (tables .entry)) (now (functions .entry)) (now (rows .entry)) (now (rules .entry)))) (callBefore (codeOf (now (sections .entry)) (now (code .entry)))) (sizeAt (codeOf (now (sections .entry)) (now (code .entry)))) depth target) (listedIn (callsOf (callBefore (codeOf (now (sections .entry)) (now (code .entry)))) (sizeAt (codeOf (now (sections .entry)) (now (code .entry)))) (spot .left) stop (spot .pc))) allowance) ⌝ }
+{
+    let mut at = spot;
+    let mut left = allowance;
+    let mut failed = Failed::none();
+    while 0 < at.left {
+        let Size::Is(n) = calls::size_at(sections, code, at.pc) else {
+            return Searched::no_chain(Outcome::Missing, left);
+        };
+        let ra = std::num::wrapping_add_u32(at.pc, n);
+        at = calls::pass_over(sections, code, ra, stop, at.left - 1);
+        let onward = follow(tables, functions, rows, rules, sections, code, ra);
+        let Onward::To { start, end, off } = onward else {
+            continue;
+        };
+        if (start == failed.start) & (end == failed.end) {
+            if left < failed.cost {
+                return Searched::no_chain(Outcome::Spent, 0);
+            }
+            left -= failed.cost;
+            continue;
+        }
+        let found = call_chain(
+            tables,
+            functions,
+            rows,
+            rules,
+            sections,
+            code,
+            start,
+            end,
+            target,
+            depth,
+            left,
+        );
+        let outcome = found.outcome;
+        let Outcome::Missing = outcome else {
+            return found.with(ra, off);
+        };
+        let cost = left - found.left;
+        failed = Failed { start, end, cost };
+        left = found.left;
+    }
+    Searched::no_chain(Outcome::Missing, left)
+}
+
 // A chain of calls from a function's range to the target, through at most depth further functions. The function is listed whole first;
-// then as many instructions are gone through again, and each call that may be followed is. The function that failed last fails again at
-// the same cost: it is not searched anew.
+// then its calls are gone through again, and each that may be followed is.
 pub fn call_chain(
     tables: &[u32],
     functions: &[u32],
@@ -213,71 +294,29 @@ pub fn call_chain(
     ensures { λ r. ⌜ r ≡ searchedOf (chain (viewAt (bookOf (now (tables .entry)) (now (functions .entry)) (now (rows .entry)) (now (rules .entry)))) (callBefore (codeOf (now (sections .entry)) (now (code .entry)))) (sizeAt (codeOf (now (sections .entry)) (now (code .entry)))) depth target start end allowance) ⌝ }
 {
     let listing = calls::list_calls(sections, code, start, end, target, allowance);
-    let here = settled(tables, functions, rows, rules, listing);
-    let Listing::Other { left: after } = listing else {
-        return here;
+    let Listing::Other { left } = listing else {
+        return settled(tables, functions, rows, rules, listing);
     };
     if depth == 0 {
-        return here;
+        return Searched::no_chain(Outcome::Missing, left);
     }
-    let deeper = depth - 1;
-    let mut todo = allowance - after;
-    let mut pc = start;
-    let mut left = after;
-    let mut failed_start = 0u32;
-    let mut failed_end = 0u32;
-    let mut cost = 0u32;
-    while 0 < todo {
-        let on = calls::pass_over(sections, code, pc, end, todo);
-        pc = on.pc;
-        todo = on.left;
-        if todo == 0 {
-            return Searched::no_chain(Outcome::Missing, left);
-        }
-        let Size::Is(n) = calls::size_at(sections, code, pc) else {
-            return Searched::no_chain(Outcome::Missing, left);
-        };
-        pc = std::num::wrapping_add_u32(pc, n);
-        todo -= 1;
-        let onward = follow(tables, functions, rows, rules, sections, code, pc);
-        let Onward::To {
-            start: s,
-            end: e,
-            off,
-        } = onward
-        else {
-            continue;
-        };
-        if (s == failed_start) & (e == failed_end) {
-            if left < cost {
-                return Searched::no_chain(Outcome::Spent, 0);
-            }
-            left -= cost;
-            continue;
-        }
-        let found = call_chain(
-            tables,
-            functions,
-            rows,
-            rules,
-            sections,
-            code,
-            s,
-            e,
-            target,
-            deeper,
-            left,
-        );
-        let outcome = found.outcome;
-        let Outcome::Missing = outcome else {
-            return found.with(pc, off);
-        };
-        failed_start = s;
-        failed_end = e;
-        cost = left - found.left;
-        left = found.left;
-    }
-    Searched::no_chain(Outcome::Missing, left)
+    let spot = Spot {
+        pc: start,
+        left: allowance - left,
+    };
+    through_calls(
+        tables,
+        functions,
+        rows,
+        rules,
+        sections,
+        code,
+        spot,
+        end,
+        target,
+        depth - 1,
+        left,
+    )
 }
 
 // The stack pointer above the frames of the first count links.
