@@ -8,6 +8,7 @@ use types.Run.{OneOf}
 use denote.Enum.Declared.{tagOf}
 use Rattle.calls.proofs.Call as call-type
 use Rattle.calls.proofs.Listing as listing-type
+use Rattle.calls.specs.declared.Span.{Span}
 use Rattle.calls.specs.declared.Listing.{Listing}
 use Rattle.calls.specs.declared.Listing.the-variants.{Spent, Straight, Other}
 use Rattle.calls.specs.declared.Call.{Call}
@@ -25,8 +26,14 @@ by-call None n i d = n refl
 by-call Indirect n i d = i refl
 by-call (Direct t) n i d = d t refl
 
+-- a call that is one of the first two variants is one
+pub not-none : (x : Call) → OneOf (0 ∷ 1 ∷ []) (tagOf call-type.the-type x) → x ≡ None → ⊥
+not-none None h e = ⊎-elim (λ (q : 2 ≡ 0). omega arith) (λ (q : 2 ≡ 1). omega arith) h
+not-none Indirect h e = let z : _≡_ {A = ℕ} 0 1 = cc in omega arith
+not-none (Direct t) h e = let z : _≡_ {A = ℕ} 0 1 = cc in omega arith
+
 -- a listing that is one of the first two variants says nothing of other calls
-pub not-other : (x : Listing) → OneOf (0 ∷ 1 ∷ []) (tagOf listing-type.the-type x) → (k : ℕ) → x ≡ Other k → ⊥
-not-other Spent h k e = let z : _≡_ {A = ℕ} 0 1 = cc in omega arith
-not-other (Straight ra l) h k e = let z : _≡_ {A = ℕ} 0 1 = cc in omega arith
-not-other (Other l) h k e = ⊎-elim (λ (q : 2 ≡ 0). omega arith) (λ (q : 2 ≡ 1). omega arith) h
+pub not-other : (x : Listing) → OneOf (0 ∷ 1 ∷ []) (tagOf listing-type.the-type x) → (k : ℕ) (s : Span) → x ≡ Other k s → ⊥
+not-other Spent h k s e = let z : _≡_ {A = ℕ} 0 1 = cc in omega arith
+not-other (Straight ra l) h k s e = let z : _≡_ {A = ℕ} 0 1 = cc in omega arith
+not-other (Other l r) h k s e = ⊎-elim (λ (q : 2 ≡ 0). omega arith) (λ (q : 2 ≡ 1). omega arith) h

@@ -1,4 +1,4 @@
--- Passing over instructions that are surely no calls leaves the listing as it is. Assumes nothing.
+-- Passing over instructions that are surely no calls leaves a listing as it is. Assumes nothing.
 use Prim.Native.Nat.{ℕ, zero, suc, _+_, _-_, _*_, _/_, _%_, _^_, _≤_, _<_}
 use mathlib.Core.Path.{_≡_, refl, sym, ap, _∙_}
 use mathlib.Core.Bool.{Bool, true, false, cond, _&&_, _||_, and-true}
@@ -16,14 +16,13 @@ use Rattle.code.specs.declared.Insn.the-variants.{Is}
 use Rattle.code.specs.declared.Window.{Window}
 use Rattle.code.proofs.Laws.{little-four}
 use Rattle.code.proofs.Windows.{window-holds, window-inside, window-reads}
-use Rattle.calls.specs.declared.Call.{Call}
 use Rattle.calls.specs.declared.Call.the-variants.{None}
 use Rattle.calls.specs.declared.Spot.{Spot}
 use Rattle.calls.specs.Encoding.{isJal, isJalr, isCJal, isCJalr}
 use Rattle.calls.specs.Call.{wideCall, shortCall, callBefore}
-use Rattle.calls.specs.Listing.{Out, spent, ok, andThen, Listed, noted, calls, sizeAt}
+use Rattle.calls.specs.Listing.{callsAmong, sizeAt}
 use Rattle.calls.specs.Passing.{mayCall, quietSize, spotAt, least, passed, passedOver}
-use Rattle.calls.proofs.Turns.{calls-visit}
+use Rattle.calls.proofs.Turns.{among-quiet}
 
 -- the size of a quiet instruction, by its first halfword
 module _ (b : List ℕ) (p half : ℕ) (e : half ≡ little 2 b p) (m : Bool) where
@@ -102,11 +101,9 @@ module _ (f l : ℕ) (h : mayCall f l ≡ false) where
       (λ t. rw (s, t)))
       (λ s. rw s)
 
--- an instruction before which there is no call adds nothing to a listing
-adds-nothing : (ra : ℕ) (call : Call) (o : Out (List Listed)) → call ≡ None → andThen o (λ fs k. ok (noted ra call fs) k) ≡ o
-unfolding andThen noted
-adds-nothing ra call spent e = refl
-adds-nothing ra call (ok fs k) e = rw e
+-- what f says of an allowance and an address is the same before and after an instruction that is no call
+abbrev pub Unmoved : {A : Type 0} → Code → ℕ → (ℕ → ℕ → A) → Type 0
+Unmoved c end f = (l pc n : ℕ) → ltb pc end ≡ true → sizeAt c pc ≡ some n → callBefore c (plus pc n) ≡ None → f l (plus pc n) ≡ f (suc l) pc
 
 module _ (c : Code) (g : codeIsGood c ≡ true) (addr : ℕ) (w : Window) (e : w ≡ windowAt (c .sections) addr) where
   reads : (k d : ℕ) → 0 < k → d + k ≤ w .size → insnAt k c (w .base + d) ≡ Is (little k (c .bytes) (w .place + d))
@@ -153,26 +150,22 @@ module _ (c : Code) (g : codeIsGood c ≡ true) (addr : ℕ) (w : Window) (e : w
       let y : w .place + (d + 2 - 2) ≡ w .place + d = omega arith in
       rw m (record { some-size = omega arith; sized = rw (r, t); none = quiet-none (d + 2) (omega arith) (omega arith) (omega arith) (rw (x, y) u) })))
 
-  -- the listing from where the passing ends is the listing from where it starts
-  pass-same : (end stop left d : ℕ) → 2 ≤ d → w .base + d < 2 ^ 32 → stop + 4 ≤ w .size → w .base + stop ≤ end
-      → calls (callBefore c) (sizeAt c) (passed (c .bytes) (w .place) stop left d .left) end (plus (w .base) (passed (c .bytes) (w .place) stop left d .pc))
-      ≡ calls (callBefore c) (sizeAt c) left end (plus (w .base) d)
+  -- and so where the passing ends as where it starts
+  pass-same : {A : Type 0} (f : ℕ → ℕ → A) (end : ℕ) → Unmoved c end f → (stop left d : ℕ) → 2 ≤ d → w .base + d < 2 ^ 32 → stop + 4 ≤ w .size → w .base + stop ≤ end
+      → f (passed (c .bytes) (w .place) stop left d .left) (plus (w .base) (passed (c .bytes) (w .place) stop left d .pc)) ≡ f left (plus (w .base) d)
   unfolding passed
-  pass-same end stop zero d l s h k = refl
-  pass-same end stop (suc left) d l s h k =
+  pass-same f end m stop zero d l s h k = refl
+  pass-same f end m stop (suc left) d l s h k =
       by-bool (ltb d stop)
       (λ t. by-bool (eqb (quietSize (c .bytes) (w .place + d)) 0)
       (λ u. rw (t, passed, u))
-      (λ u. rw (t, passed, u) (on (quietSize (c .bytes) (w .place + d)) refl (eqb-false _ _ u) (ltb-true d stop t) (λ n v. pass-same end stop left (d + n) (omega arith) v h k))))
+      (λ u. rw (t, passed, u) (on (quietSize (c .bytes) (w .place + d)) refl (eqb-false _ _ u) (ltb-true d stop t) (λ n v. pass-same f end m stop left (d + n) (omega arith) v h k))))
       (λ t. rw (t, passed))
     where
-      listed : ℕ → ℕ → Out (List Listed)
-      listed m pc = calls (callBefore c) (sizeAt c) m end pc
-
       on : (n : ℕ) → n ≡ quietSize (c .bytes) (w .place + d) → ¬ (n ≡ 0) → d < stop
           → ((n : ℕ) → w .base + (d + n) < 2 ^ 32
-          → listed (passed (c .bytes) (w .place) stop left (d + n) .left) (plus (w .base) (passed (c .bytes) (w .place) stop left (d + n) .pc)) ≡ listed left (plus (w .base) (d + n)))
-          → listed (passed (c .bytes) (w .place) stop left (d + n) .left) (plus (w .base) (passed (c .bytes) (w .place) stop left (d + n) .pc)) ≡ listed (suc left) (plus (w .base) d)
+          → f (passed (c .bytes) (w .place) stop left (d + n) .left) (plus (w .base) (passed (c .bytes) (w .place) stop left (d + n) .pc)) ≡ f left (plus (w .base) (d + n)))
+          → f (passed (c .bytes) (w .place) stop left (d + n) .left) (plus (w .base) (passed (c .bytes) (w .place) stop left (d + n) .pc)) ≡ f (suc left) (plus (w .base) d)
       on n q z t ih =
           let i : w .base + w .size ≤ 2 ^ 32 = window-inside c g addr w e .1 in
           let y : Quiet d n = quiet-turn d n l (omega arith) q z in
@@ -180,9 +173,8 @@ module _ (c : Code) (g : codeIsGood c ≡ true) (addr : ℕ) (w : Window) (e : w
           let a : plus (w .base) d ≡ w .base + d = omega arith in
           let b : plus (w .base + d) n ≡ w .base + (d + n) = omega arith in
           let o : w .base + d < end = omega arith in
-          let f : plus (w .base) (d + n) ≡ w .base + (d + n) = omega arith in
-          ih n (omega arith)
-          ∙ rw (f, a) (sym (calls-visit (callBefore c) (sizeAt c) left end (w .base + d) n (lt-ltb _ _ o) (y .sized) ∙ rw b (adds-nothing (w .base + (d + n)) _ (listed left (w .base + (d + n))) (y .none))))
+          let v : plus (w .base) (d + n) ≡ w .base + (d + n) = omega arith in
+          ih n (omega arith) ∙ rw (v, a) (rw b at (m left (w .base + d) n (lt-ltb _ _ o) (y .sized) (rw b (y .none))))
 
 -- how far `pass_over` goes
 module _ (start end : ℕ) (w : Window) where
@@ -214,6 +206,19 @@ module _ (c : Code) (start end left : ℕ) (w : Window) (e : w ≡ windowAt (c .
   unfolding passedOver
   over-not t = rw (← e, t)
 
+-- nothing is passed over for nothing
+pub over-broke : (c : Code) (start end left : ℕ) → left ≡ 0 → start < 2 ^ 32 → spotAt start left ≡ passedOver c start end left
+unfolding passedOver passed
+over-broke c start end left z h =
+    rw z (by-bool (shows start end w)
+    (λ t. let a : w .base + 2 ≤ start = is-in start end w t .before in
+    let y : plus (w .base) (start - w .base) ≡ start = omega arith in
+    rw (t, y))
+    (λ t. rw t))
+  where
+    w : Window
+    w = windowAt (c .sections) start
+
 -- the lesser of two numbers is at most either
 least-upto : (a b : ℕ) → (least a b ≤ a) × (least a b ≤ b)
 least-upto a b =
@@ -236,16 +241,24 @@ module _ (c : Code) (g : codeIsGood c ≡ true) (start end left : ℕ) where
   abbrev there : Spot
   there = passedOver c start end left
 
-  -- going on from there lists the same, with no more left
-  over-same : (there .left ≤ left) × (calls (callBefore c) (sizeAt c) (there .left) end (there .pc) ≡ calls (callBefore c) (sizeAt c) left end start)
+  -- no more is left there
+  pub over-left : (s : Spot) → s ≡ there → s .left ≤ left
   unfolding passedOver
-  over-same = by-bool (shows start end w) here (λ t. rw t (omega arith, refl))
+  over-left s e =
+      rw e (by-bool (shows start end w) (λ t. rw t (pass-within (c .bytes) (w .place) (least (end - w .base) (w .size - 4)) left (start - w .base))) (λ t. rw t (omega arith)))
     where
       w : Window
       w = windowAt (c .sections) start
 
-      here : shows start end w ≡ true
-          → (there .left ≤ left) × (calls (callBefore c) (sizeAt c) (there .left) end (there .pc) ≡ calls (callBefore c) (sizeAt c) left end start)
+  -- and what no such instruction changes is as at the start
+  pub over-from : {A : Type 0} (f : ℕ → ℕ → A) → Unmoved c end f → (s : Spot) → s ≡ there → f (s .left) (s .pc) ≡ f left start
+  unfolding passedOver
+  over-from f m s e = rw e (by-bool (shows start end w) here (λ t. rw t))
+    where
+      w : Window
+      w = windowAt (c .sections) start
+
+      here : shows start end w ≡ true → f (there .left) (there .pc) ≡ f left start
       here t =
           let i : In start end w = is-in start end w t in
           let a : w .base + 2 ≤ start = i .before in
@@ -256,12 +269,8 @@ module _ (c : Code) (g : codeIsGood c ≡ true) (start end left : ℕ) where
           let v : start + 2 ≤ w .base + w .size = window-holds c g start w refl (omega arith) in
           let o : w .base + w .size ≤ 2 ^ 32 = window-inside c g start w refl .1 in
           let y : plus (w .base) (start - w .base) ≡ start = omega arith in
-          rw t (
-            pass-within (c .bytes) (w .place) (least (end - w .base) (w .size - 4)) left (start - w .base),
-            pass-same c g start w refl end (least (end - w .base) (w .size - 4)) left (start - w .base) (omega arith) (omega arith) (omega arith) (omega arith)
-                ∙ rw y,
-          )
+          rw t (pass-same c g start w refl f end m (least (end - w .base) (w .size - 4)) left (start - w .base) (omega arith) (omega arith) (omega arith) (omega arith) ∙ rw y)
 
-  -- the same of what `pass_over` answers
-  pub over-from : (s : Spot) → s ≡ there → (s .left ≤ left) × (calls (callBefore c) (sizeAt c) (s .left) end (s .pc) ≡ calls (callBefore c) (sizeAt c) left end start)
-  over-from s e = rw e over-same
+  -- as the calls among so many instructions
+  pub over-among : (s : Spot) → s ≡ there → callsAmong (callBefore c) (sizeAt c) (s .left) (s .pc) ≡ callsAmong (callBefore c) (sizeAt c) left start
+  over-among s e = over-from (callsAmong (callBefore c) (sizeAt c)) (λ l pc n t h q. among-quiet (callBefore c) (sizeAt c) l pc n h q) s e

@@ -14,9 +14,11 @@ use Rattle.calls.specs.declared.Call.the-variants.{None, Indirect, Direc
 use Rattle.calls.specs.declared.Size.the-variants.{Is, Unreadable}
 use Rattle.calls.specs.declared.First.{First}
 use Rattle.calls.specs.declared.First.the-variants.{At, NotYet}
+use Rattle.calls.specs.declared.Span.{Span}
 use Rattle.calls.specs.declared.Listing.{Listing}
 use Rattle.calls.specs.declared.Listing.the-variants.{Spent}
-use Rattle.calls.specs.Listing.{Out, spent, ok, andThen, Listed, noted, straight, calls, sizeOf, firstOf, firstThen, listingBy, listingOf}
+use Rattle.calls.specs.Passing.{spotAt}
+use Rattle.calls.specs.Listing.{Out, spent, ok, andThen, Listed, noted, straight, calls, sizeOf, firstOf, firstThen, listingBy, listingOf, spanFrom, spanThen, callsAmong}
 
 pub size-is : (o : Option ℕ) (n : ℕ) → sizeOf o ≡ Is n → o ≡ some n
 size-is none n e = absurd (let z : _≡_ {A = ℕ} 0 1 = cc in omega arith)
@@ -25,6 +27,12 @@ size-is (some m) n e = cc
 pub size-not : (o : Option ℕ) → sizeOf o ≡ Unreadable → o ≡ none
 size-not none e = refl
 size-not (some m) e = absurd (let z : _≡_ {A = ℕ} 0 1 = cc in omega arith)
+
+pub ok-fst : {A : Type 0} (a b : A) (k l : ℕ) → Path (Out A) (ok a k) (ok b l) → a ≡ b
+ok-fst a b k l e = cc
+
+pub ok-snd : {A : Type 0} (a b : A) (k l : ℕ) → Path (Out A) (ok a k) (ok b l) → k ≡ l
+ok-snd a b k l e = cc
 
 module _ (callBefore : ℕ → Call) (sizeAt : ℕ → Option ℕ) where
   pub calls-end : (l end pc : ℕ) → ltb pc end ≡ false → calls callBefore sizeAt l end pc ≡ ok [] l
@@ -46,19 +54,55 @@ module _ (callBefore : ℕ → Call) (sizeAt : ℕ → Option ℕ) where
   unfolding calls
   calls-visit l end pc n e h = rw (e, calls, h)
 
+  pub span-end : (s : Span) (l end pc : ℕ) → ltb pc end ≡ false → spanFrom callBefore sizeAt s l end pc ≡ s
+  unfolding spanFrom
+  span-end s zero end pc e = refl
+  span-end s (suc l) end pc e = rw (e, spanFrom)
+
+  pub span-stuck : (s : Span) (l end pc : ℕ) → ltb pc end ≡ true → sizeAt pc ≡ none → spanFrom callBefore sizeAt s l end pc ≡ s
+  unfolding spanFrom
+  span-stuck s zero end pc e h = refl
+  span-stuck s (suc l) end pc e h = rw (e, spanFrom, h)
+
+  pub span-visit : (s : Span) (l end pc n : ℕ) → ltb pc end ≡ true → sizeAt pc ≡ some n
+      → spanFrom callBefore sizeAt s (suc l) end pc ≡ spanFrom callBefore sizeAt (spanThen s (callBefore (plus pc n)) (spotAt pc (suc l)) l) l end (plus pc n)
+  unfolding spanFrom
+  span-visit s l end pc n e h = rw (e, spanFrom, h)
+
+  pub among-stuck : (m pc : ℕ) → sizeAt pc ≡ none → callsAmong callBefore sizeAt m pc ≡ []
+  unfolding callsAmong
+  among-stuck zero pc h = refl
+  among-stuck (suc m) pc h = rw (h, callsAmong)
+
+  pub among-visit : (m pc n : ℕ) → sizeAt pc ≡ some n
+      → callsAmong callBefore sizeAt (suc m) pc ≡ noted (plus pc n) (callBefore (plus pc n)) (callsAmong callBefore sizeAt m (plus pc n))
+  unfolding callsAmong
+  among-visit m pc n h = rw (h, callsAmong)
+
+  -- an instruction that is no call adds none
+  pub among-quiet : (m pc n : ℕ) → sizeAt pc ≡ some n → callBefore (plus pc n) ≡ None → callsAmong callBefore sizeAt m (plus pc n) ≡ callsAmong callBefore sizeAt (suc m) pc
+  unfolding noted
+  among-quiet m pc n h q = sym (rw (among-visit m pc n h, q))
+
+-- nor to a listing
+adds-nothing : (ra : ℕ) (call : Call) (o : Out (List Listed)) → call ≡ None → andThen o (λ fs k. ok (noted ra call fs) k) ≡ o
+unfolding andThen noted
+adds-nothing ra call spent e = refl
+adds-nothing ra call (ok fs k) e = rw e
+
 -- the first of two straight calls, if there is one
 abbrev orElse : First → First → First
 orElse (At a) g = At a
 orElse NotYet g = g
 
--- the listing, where f was met before it
-abbrev pub resume : First → ℕ → Out (List Listed) → Listing
-resume f target spent = Spent
-resume f target (ok fs l) = listingBy (orElse f (firstOf (straight target fs))) l
+-- the listing, where f was met before it and s is where all calls stand
+abbrev pub resume : First → ℕ → Span → Out (List Listed) → Listing
+resume f target s spent = Spent
+resume f target s (ok fs l) = listingBy (orElse f (firstOf (straight target fs))) s l
 
-pub resume-start : (target : ℕ) (out : Out (List Listed)) → resume NotYet target out ≡ listingOf target out
-resume-start target spent = refl
-resume-start target (ok fs l) = refl
+pub resume-start : (target : ℕ) (s : Span) (out : Out (List Listed)) → resume NotYet target s out ≡ listingOf target s out
+resume-start target s spent = refl
+resume-start target s (ok fs l) = refl
 
 or-none : (f : First) → orElse f NotYet ≡ f
 or-none (At a) = refl
@@ -73,29 +117,40 @@ straight-noted NotYet target ra Indirect fs = refl
 straight-noted NotYet target ra (Direct t) fs = by-bool (eqb t target) (λ e. rw (e, straight)) (λ e. rw (e, straight))
 
 module _ (callBefore : ℕ → Call) (sizeAt : ℕ → Option ℕ) where
-  nothing-left : (f : First) (target l : ℕ) → resume f target (ok [] l) ≡ listingBy f l
+  -- the listing from pc on, after f and s
+  abbrev pub onward : First → ℕ → Span → ℕ → ℕ → ℕ → Listing
+  onward f target s end l pc = resume f target (spanFrom callBefore sizeAt s l end pc) (calls callBefore sizeAt l end pc)
+
+  nothing-left : (f : First) (target l : ℕ) (s : Span) → resume f target s (ok [] l) ≡ listingBy f s l
   unfolding straight
-  nothing-left f target l = ap (λ (x : First). listingBy x l) (or-none f)
+  nothing-left f target l s = ap (λ (x : First). listingBy x s l) (or-none f)
 
-  pub resume-end : (f : First) (target l end pc : ℕ) → ltb pc end ≡ false → resume f target (calls callBefore sizeAt l end pc) ≡ listingBy f l
-  resume-end f target l end pc e = rw (calls-end callBefore sizeAt l end pc e) (nothing-left f target l)
+  pub onward-end : (f : First) (target : ℕ) (s : Span) (l end pc : ℕ) → ltb pc end ≡ false → onward f target s end l pc ≡ listingBy f s l
+  onward-end f target s l end pc e = rw (calls-end callBefore sizeAt l end pc e, span-end callBefore sizeAt s l end pc e) (nothing-left f target l s)
 
-  pub resume-stuck : (f : First) (target l end pc : ℕ) → ltb pc end ≡ true → sizeAt pc ≡ none → resume f target (calls callBefore sizeAt l end pc) ≡ listingBy f l
-  resume-stuck f target l end pc e h = rw (calls-stuck callBefore sizeAt l end pc e h) (nothing-left f target l)
+  pub onward-stuck : (f : First) (target : ℕ) (s : Span) (l end pc : ℕ) → ltb pc end ≡ true → sizeAt pc ≡ none → onward f target s end l pc ≡ listingBy f s l
+  onward-stuck f target s l end pc e h = rw (calls-stuck callBefore sizeAt l end pc e h, span-stuck callBefore sizeAt s l end pc e h) (nothing-left f target l s)
 
-  pub resume-broke : (f : First) (target l end pc n : ℕ) → l ≡ 0 → ltb pc end ≡ true → sizeAt pc ≡ some n → resume f target (calls callBefore sizeAt l end pc) ≡ Spent
-  resume-broke f target l end pc n z e h = rw (z, calls-broke callBefore sizeAt end pc n e h)
+  pub onward-broke : (f : First) (target : ℕ) (s : Span) (l end pc n : ℕ) → l ≡ 0 → ltb pc end ≡ true → sizeAt pc ≡ some n → onward f target s end l pc ≡ Spent
+  onward-broke f target s l end pc n z e h = rw (z, calls-broke callBefore sizeAt end pc n e h)
 
-  turn : (f : First) (target ra : ℕ) (out : Out (List Listed))
-      → resume f target (andThen out (λ fs k. ok (noted ra (callBefore ra) fs) k)) ≡ resume (firstThen f (callBefore ra) ra target) target out
+  turn : (f : First) (target ra : ℕ) (s : Span) (out : Out (List Listed))
+      → resume f target s (andThen out (λ fs k. ok (noted ra (callBefore ra) fs) k)) ≡ resume (firstThen f (callBefore ra) ra target) target s out
   unfolding andThen
-  turn f target ra spent = refl
-  turn f target ra (ok fs l) = ap (λ (x : First). listingBy x l) (straight-noted f target ra (callBefore ra) fs)
+  turn f target ra s spent = refl
+  turn f target ra s (ok fs l) = ap (λ (x : First). listingBy x s l) (straight-noted f target ra (callBefore ra) fs)
 
-  pub resume-next : (f g : First) (call : Call) (target l end pc n ra : ℕ) → pc < end → sizeOf (sizeAt pc) ≡ Is n → ¬ (l ≡ 0) → ra ≡ plus pc n
-      → call ≡ callBefore ra → g ≡ firstThen f call ra target
-      → resume g target (calls callBefore sizeAt (l - 1) end ra) ≡ resume f target (calls callBefore sizeAt l end pc)
-  resume-next f g call target zero end pc n ra t s z w h q = absurd (z refl)
-  resume-next f g call target (suc l) end pc n ra t s z w h q =
+  pub onward-next : (f g : First) (s t : Span) (call : Call) (target l end pc n ra : ℕ) → pc < end → sizeOf (sizeAt pc) ≡ Is n → ¬ (l ≡ 0) → ra ≡ plus pc n
+      → call ≡ callBefore ra → t ≡ spanThen s call (spotAt pc l) (l - 1) → g ≡ firstThen f call ra target
+      → onward g target t end (l - 1) ra ≡ onward f target s end l pc
+  onward-next f g s t call target zero end pc n ra b k z w h u q = absurd (z refl)
+  onward-next f g s t call target (suc l) end pc n ra b k z w h u q =
       let m : suc l - 1 ≡ l = omega arith in
-      rw (m, q, h, w, calls-visit callBefore sizeAt l end pc n (lt-ltb pc end t) (size-is (sizeAt pc) n s)) (sym (turn f target (plus pc n) (calls callBefore sizeAt l end (plus pc n))))
+      let i : sizeAt pc ≡ some n = size-is (sizeAt pc) n k in
+      rw (q, u, m, h, w, calls-visit callBefore sizeAt l end pc n (lt-ltb pc end b) i, span-visit callBefore sizeAt s l end pc n (lt-ltb pc end b) i)
+      (sym (turn f target (plus pc n) _ (calls callBefore sizeAt l end (plus pc n))))
+
+  pub onward-quiet : (f : First) (target : ℕ) (s : Span) (end l pc n : ℕ) → ltb pc end ≡ true → sizeAt pc ≡ some n → callBefore (plus pc n) ≡ None
+      → onward f target s end l (plus pc n) ≡ onward f target s end (suc l) pc
+  onward-quiet f target s end l pc n e h q =
+      sym (rw (calls-visit callBefore sizeAt l end pc n e h, span-visit callBefore sizeAt s l end pc n e h, adds-nothing (plus pc n) (callBefore (plus pc n)) (calls callBefore sizeAt l end (plus pc n)) q, q))

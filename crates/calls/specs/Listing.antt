@@ -9,12 +9,15 @@ use Rattle.words.specs.Words.{plus}
 use Rattle.code.specs.Code.{Code, insnAt}
 use Rattle.code.specs.declared.Insn.{Insn}
 use Rattle.code.specs.declared.Insn.the-variants.{Is, Unread}
+use Rattle.calls.specs.Passing.{spotAt}
 use Rattle.calls.specs.declared.Call.{Call}
 use Rattle.calls.specs.declared.Call.the-variants.{Direct, Indirect, None}
 use Rattle.calls.specs.declared.Size.{Size}
 use Rattle.calls.specs.declared.Size.the-variants as size
 use Rattle.calls.specs.declared.First.{First}
 use Rattle.calls.specs.declared.First.the-variants.{At, NotYet}
+use Rattle.calls.specs.declared.Spot.{Spot}
+use Rattle.calls.specs.declared.Span.{Span}
 use Rattle.calls.specs.declared.Listing.{Listing}
 use Rattle.calls.specs.declared.Listing.the-variants.{Spent, Straight, Other}
 
@@ -59,6 +62,21 @@ straight target [] = none
 straight target (f ∷ fs) =
     elim (f .target) [ none ↦ straight target fs | some t ↦ elim (eqb t target) [ true ↦ some (f .ra) | false ↦ straight target fs ] ]
 
+-- no call yet
+abbrev pub noSpan : ℕ → Span
+noSpan pc = record { pc = pc; from = 0; last = 0 }
+
+-- a call more, which stands at a spot and leaves so much
+abbrev pub longer : Span → Spot → ℕ → Span
+longer s at left =
+    cond (eqb (s .from) 0) (record { pc = at .pc; from = at .left; last = left }) (record { pc = s .pc; from = s .from; last = left })
+
+-- an instruction more, with its call
+abbrev pub spanThen : Span → Call → Spot → ℕ → Span
+spanThen s None at left = s
+spanThen s Indirect at left = longer s at left
+spanThen s (Direct t) at left = longer s at left
+
 module _ (callBefore : ℕ → Call) (sizeAt : ℕ → Option ℕ) where
   -- the calls from pc up to end: each instruction visited takes one of the allowance; one that cannot be read ends the list
   unfoldable pub calls : ℕ → ℕ → ℕ → Out (List Listed)
@@ -72,6 +90,23 @@ module _ (callBefore : ℕ → Call) (sizeAt : ℕ → Option ℕ) where
         ]
       ]
 
+  -- from the first call of a listing to the last: of the instructions from pc up to end, and of those before, which have s
+  unfoldable pub spanFrom : Span → ℕ → ℕ → ℕ → Span
+  spanFrom s zero end pc = s
+  spanFrom s (suc left) end pc =
+      elim (ltb pc end) [
+        | false ↦ s
+        | true ↦ elim (sizeAt pc) [
+          | none ↦ s
+          | some n ↦ spanFrom (spanThen s (callBefore (plus pc n)) (spotAt pc (suc left)) left) left end (plus pc n)
+        ]
+      ]
+
+  -- the calls among the next instructions from pc on: so many, or up to one that cannot be read
+  unfoldable pub callsAmong : ℕ → ℕ → List Listed
+  callsAmong zero pc = []
+  callsAmong (suc count) pc = elim (sizeAt pc) [ none ↦ [] | some n ↦ noted (plus pc n) (callBefore (plus pc n)) (callsAmong count (plus pc n)) ]
+
 -- the first straight call after one instruction more
 abbrev pub firstThen : First → Call → ℕ → ℕ → First
 firstThen (At a) call ra target = At a
@@ -79,17 +114,17 @@ firstThen NotYet (Direct t) ra target = cond (eqb t target) (At ra) NotYet
 firstThen NotYet Indirect ra target = NotYet
 firstThen NotYet None ra target = NotYet
 
--- the first straight call and the allowance left, as the code answers them
-abbrev pub listingBy : First → ℕ → Listing
-listingBy (At ra) l = Straight ra l
-listingBy NotYet l = Other l
+-- the first straight call, else where the calls stand, and the allowance left, as the code answers them
+abbrev pub listingBy : First → Span → ℕ → Listing
+listingBy (At ra) s l = Straight ra l
+listingBy NotYet s l = Other l s
 
 -- whether there is a straight call, as the code answers it
 abbrev pub firstOf : Option ℕ → First
 firstOf none = NotYet
 firstOf (some ra) = At ra
 
--- the listing of a whole function: the first call straight to target, and the allowance left
-abbrev pub listingOf : ℕ → Out (List Listed) → Listing
-listingOf target spent = Spent
-listingOf target (ok fs l) = listingBy (firstOf (straight target fs)) l
+-- the listing of a whole function: the first call straight to target, else where its calls stand, and the allowance left
+abbrev pub listingOf : ℕ → Span → Out (List Listed) → Listing
+listingOf target s spent = Spent
+listingOf target s (ok fs l) = listingBy (firstOf (straight target fs)) s l

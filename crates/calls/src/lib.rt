@@ -9,7 +9,7 @@ ghost use Rattle.code.specs.Code.{codeOf, codeIsGood};
 ghost use Rattle.calls.specs.Encoding.{isJal, isJalr, isAuipc, isCJal, isCJalr};
 ghost use Rattle.calls.specs.Call.{farCall, wideCall, shortCall, callBefore};
 ghost use Rattle.calls.specs.Passing.{mayCall, quietSize, least as leastOf, passed, passedOver};
-ghost use Rattle.calls.specs.Listing.{sizeAt, sizeOf, firstThen, listingBy, listingOf, calls};
+ghost use Rattle.calls.specs.Listing.{sizeAt, sizeOf, noSpan, spanThen, firstThen, listingBy, listingOf, calls, spanFrom};
 
 // A call instruction, with its target unless it goes through a register.
 pub enum Call {
@@ -36,11 +36,19 @@ pub struct Spot {
     pub left: u32,
 }
 
-// A function's listing: the first call straight to the target, if there is one, and the allowance left.
+// A stretch of code from a first call to a last: where the first stands and the allowance there, which is 0 where there is none, and the
+// allowance left after the last.
+pub struct Span {
+    pub pc: u32,
+    pub from: u32,
+    pub last: u32,
+}
+
+// A function's listing: the first call straight to the target, else where its calls stand, and the allowance left.
 pub enum Listing {
     Spent,
     Straight { ra: u32, left: u32 },
-    Other { left: u32 },
+    Other { left: u32, calls: Span },
 }
 
 // `jal ra`
@@ -231,6 +239,12 @@ pub fn pass_over(sections: &[u32], code: &[u8], start: u32, end: u32, allowance:
     requires { ⌜ codeIsGood (codeOf (now sections) (now code)) ≡ true ⌝ }
     ensures { λ r. ⌜ r ≡ passedOver (codeOf (now (sections .entry)) (now (code .entry))) start end allowance ⌝ }
 {
+    if allowance == 0 {
+        return Spot {
+            pc: start,
+            left: allowance,
+        };
+    }
     let window = code::window_at(sections, start);
     let base = window.base;
     let size = window.size;
@@ -245,6 +259,29 @@ pub fn pass_over(sections: &[u32], code: &[u8], start: u32, end: u32, allowance:
     Spot {
         pc: start,
         left: allowance,
+    }
+}
+
+impl Span {
+    // After the instruction at `at`, with its call and what is left after it.
+    fn then(self, call: Call, at: Spot, left: u32) -> Span
+        ensures { λ r. ⌜ r ≡ spanThen self call at left ⌝ }
+    {
+        let Call::None = call else {
+            if self.from == 0 {
+                return Span {
+                    pc: at.pc,
+                    from: at.left,
+                    last: left,
+                };
+            }
+            return Span {
+                pc: self.pc,
+                from: self.from,
+                last: left,
+            };
+        };
+        self
     }
 }
 
@@ -263,11 +300,11 @@ impl First {
     }
 
     // What a listing that leaves so much answers.
-    fn listing(self, left: u32) -> Listing
-        ensures { λ r. ⌜ r ≡ listingBy self left ⌝ }
+    fn listing(self, calls: Span, left: u32) -> Listing
+        ensures { λ r. ⌜ r ≡ listingBy self calls left ⌝ }
     {
         let First::At(ra) = self else {
-            return Listing::Other { left };
+            return Listing::Other { left, calls };
         };
         Listing::Straight { ra, left }
     }
@@ -283,27 +320,34 @@ pub fn list_calls(
     allowance: u32,
 ) -> Listing
     requires { ⌜ codeIsGood (codeOf (now sections) (now code)) ≡ true ⌝ }
-    ensures { λ r. ⌜ r ≡ listingOf target (calls (callBefore (codeOf (now (sections .entry)) (now (code .entry)))) (sizeAt (codeOf (now (sections .entry)) (now (code .entry)))) allowance end start) ⌝ }
+    ensures { λ r. ⌜ r ≡ listingOf target (spanFrom (callBefore (codeOf (now (sections .entry)) (now (code .entry)))) (sizeAt (codeOf (now (sections .entry)) (now (code .entry)))) (noSpan start) allowance end start) (calls (callBefore (codeOf (now (sections .entry)) (now (code .entry)))) (sizeAt (codeOf (now (sections .entry)) (now (code .entry)))) allowance end start) ⌝ }
 {
     let mut pc = start;
     let mut left = allowance;
     let mut first = First::NotYet;
+    let mut span = Span {
+        pc: start,
+        from: 0,
+        last: 0,
+    };
     while pc < end {
         let on = pass_over(sections, code, pc, end, left);
         pc = on.pc;
         left = on.left;
         if end <= pc {
-            return first.listing(left);
+            return first.listing(span, left);
         }
         let Size::Is(n) = size_at(sections, code, pc) else {
-            return first.listing(left);
+            return first.listing(span, left);
         };
         if left == 0 {
             return Listing::Spent;
         }
         left -= 1;
         pc = std::num::wrapping_add_u32(pc, n);
-        first = first.then(call_before(sections, code, pc), pc, target);
+        let call = call_before(sections, code, pc);
+        span = span.then(call, on, left);
+        first = first.then(call, pc, target);
     }
-    first.listing(left)
+    first.listing(span, left)
 }

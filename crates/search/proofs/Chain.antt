@@ -5,7 +5,7 @@ use mathlib.Core.List.{List, [], _∷_}
 use mathlib.Core.Option.{Option, none, some, Option·none-ne-some, Option·some-injective}
 use native.Mathlib.Omega.{arith}
 use lib.ListN.{length}
-use lib.Dec.{ltb, eqb}
+use lib.Dec.{eqb}
 use borrow.Author.Tests.{eqb-true}
 use mathlib.Core.Bool.{true, _&&_}
 use Rattle.words.proofs.Laws.{and-left, and-right}
@@ -15,43 +15,24 @@ use Rattle.rows.specs.View.{View}
 use Rattle.calls.specs.declared.Call.{Call}
 use Rattle.calls.specs.declared.Call.the-variants.{None, Indirect, Direct}
 use Rattle.calls.specs.declared.Size.the-variants.{Is, Unreadable}
+use Rattle.calls.specs.declared.Span.{Span}
 use Rattle.calls.specs.declared.Listing.{Listing}
 use Rattle.calls.specs.declared.Listing.the-variants.{Other}
-use Rattle.calls.specs.Listing.{Out, spent, ok, andThen, Listed, noted, straight, calls, sizeOf, firstOf, listingBy, listingOf}
-use Rattle.calls.proofs.Turns.{size-is, size-not, calls-end, calls-stuck, calls-broke, calls-visit}
+use Rattle.calls.specs.Listing.{Out, spent, ok, andThen, Listed, noted, straight, noSpan, calls, spanFrom, callsAmong, sizeOf, firstOf, listingBy, listingOf}
+use Rattle.calls.proofs.Turns.{size-is, size-not, calls-end, among-stuck, among-visit}
+use Rattle.calls.proofs.Spans.{Stands, span-stands}
 use Rattle.search.specs.Search.{Link, one, linkAt, follow, throughCalls, chain}
-use Rattle.search.specs.Answers.{followCall, onwardOf, settledBy, noneFailed, listedIn, withLink, searchedOf}
+use Rattle.search.specs.Answers.{followCall, onwardOf, settledBy, noneFailed, withLink, searchedOf}
 use Rattle.search.specs.declared.Failed.{Failed}
 use Rattle.search.specs.declared.Onward.{Onward}
 use Rattle.search.specs.declared.Onward.the-variants.{To, No}
 use Rattle.search.specs.declared.Outcome.the-variants as outcome
 use Rattle.search.specs.declared.Searched.{Searched}
 use Rattle.search.proofs.Links.{Sized, with-link, was-missing}
-use Rattle.search.proofs.Steady.{Takes, Cost, ok-fst, ok-snd, calls-steady, chain-steady}
+use Rattle.search.proofs.Steady.{Takes, Cost, chain-steady}
 
 none-sized : (l n : ℕ) → Sized n (ok none l)
 none-sized l n ks m e = absurd (let z : _≡_ {A = ℕ} 0 1 = cc in omega arith)
-
--- what a listing of one instruction more was made of
-record Inside (f : List Listed → List Listed) (o : Out (List Listed)) (fs : List Listed) (k : ℕ) : Type 0 where
-  inner : List Listed
-  was : o ≡ ok inner k
-  made : fs ≡ f inner
-
-inside : (f : List Listed → List Listed) (o : Out (List Listed)) (fs : List Listed) (k : ℕ) → andThen o (λ gs l. ok (f gs) l) ≡ ok fs k → Inside f o fs k
-unfolding andThen
-inside f spent fs k e = absurd (let z : _≡_ {A = ℕ} 0 1 = cc in omega arith)
-inside f (ok gs l) fs k e = record { inner = gs; was = cc; made = sym (ok-fst (f gs) fs l k e) }
-
-module _ (cb : ℕ → Call) (sz : ℕ → Option ℕ) where
-  none-listed : (l end pc : ℕ) (fs : List Listed) → l ≡ 0 → calls cb sz l end pc ≡ ok fs 0 → fs ≡ []
-  none-listed zero end pc fs z e =
-      by-bool (ltb pc end)
-      (λ t. by-option (sz pc)
-      (λ h. ok-fst fs [] 0 0 (sym e ∙ calls-stuck cb sz zero end pc t h))
-      (λ n h. absurd (let q : calls cb sz zero end pc ≡ spent = calls-broke cb sz end pc n t h in let y : _≡_ {A = ℕ} 0 1 = cc in omega arith)))
-      (λ t. ok-fst fs [] 0 0 (sym e ∙ calls-end cb sz zero end pc t))
-  none-listed (suc l) end pc fs z e = absurd (omega arith)
 
 module _ (row : ℕ → Option View) where
   -- the search on, from a link and the function that it leads to
@@ -149,29 +130,29 @@ module _ (row : ℕ → Option View) (cb : ℕ → Call) (sz : ℕ → Option �
       go (ok fs k) t = by-option (straight target fs) (λ h. rw (h, andThen) (t fs k)) (λ ra h. rw (h, andThen) (one-sized row ra k (suc d)))
 
   -- at depth 0, and where the listing has a straight call or is spent, the listing settles the search
-  chain-zero : (depth target start end l : ℕ) (x : Listing) → depth ≡ 0 → x ≡ listingOf target (calls cb sz l end start)
+  chain-zero : (depth target start end l : ℕ) (x : Listing) (s : Span) → depth ≡ 0 → x ≡ listingOf target s (calls cb sz l end start)
       → chain row cb sz depth target start end l ≡ settledBy row x
   unfolding chain andThen
-  chain-zero depth target start end l x z e = rw (z, e) (go (calls cb sz l end start))
+  chain-zero depth target start end l x s z e = rw (z, e) (go (calls cb sz l end start))
     where
-      go : (o : Out (List Listed)) → andThen o (λ fs k. elim (straight target fs) [ some ra ↦ ok (one (linkAt row ra)) k | none ↦ ok none k ]) ≡ settledBy row (listingOf target o)
+      go : (o : Out (List Listed)) → andThen o (λ fs k. elim (straight target fs) [ some ra ↦ ok (one (linkAt row ra)) k | none ↦ ok none k ]) ≡ settledBy row (listingOf target s o)
       go spent = refl
       go (ok fs k) = by-option (straight target fs) (λ h. rw (h, andThen)) (λ ra h. rw (h, andThen))
 
-  pub chain-settled : (depth target start end l : ℕ) (x : Listing) → ((k : ℕ) → x ≡ Other k → ⊥) → x ≡ listingOf target (calls cb sz l end start)
+  pub chain-settled : (depth target start end l : ℕ) (x : Listing) (s : Span) → ((k : ℕ) (r : Span) → x ≡ Other k r → ⊥) → x ≡ listingOf target s (calls cb sz l end start)
       → chain row cb sz depth target start end l ≡ settledBy row x
   unfolding chain andThen
-  chain-settled zero target start end l x n e = chain-zero zero target start end l x refl e
-  chain-settled (suc d) target start end l x n e = rw e (go (calls cb sz l end start) (λ k q. n k (e ∙ q)))
+  chain-settled zero target start end l x s n e = chain-zero zero target start end l x s refl e
+  chain-settled (suc d) target start end l x s n e = rw e (go (calls cb sz l end start) (λ k r q. n k r (e ∙ q)))
     where
-      go : (o : Out (List Listed)) → ((k : ℕ) → listingOf target o ≡ Other k → ⊥)
-          → andThen o (λ fs k. elim (straight target fs) [ some ra ↦ ok (one (linkAt row ra)) k | none ↦ throughCalls row (chain row cb sz d target) fs k ]) ≡ settledBy row (listingOf target o)
+      go : (o : Out (List Listed)) → ((k : ℕ) (r : Span) → listingOf target s o ≡ Other k r → ⊥)
+          → andThen o (λ fs k. elim (straight target fs) [ some ra ↦ ok (one (linkAt row ra)) k | none ↦ throughCalls row (chain row cb sz d target) fs k ]) ≡ settledBy row (listingOf target s o)
       go spent m = refl
-      go (ok fs k) m = by-option (straight target fs) (λ h. absurd (m k (rw h))) (λ ra h. rw (h, andThen))
+      go (ok fs k) m = by-option (straight target fs) (λ h. absurd (m k s (rw h))) (λ ra h. rw (h, andThen))
 
-  pub chain-none : (depth target start end l after : ℕ) (x : Listing) → depth ≡ 0 → x ≡ listingOf target (calls cb sz l end start) → x ≡ Other after
+  pub chain-none : (depth target start end l after : ℕ) (x : Listing) (s r : Span) → depth ≡ 0 → x ≡ listingOf target s (calls cb sz l end start) → x ≡ Other after r
       → ok none after ≡ chain row cb sz depth target start end l
-  chain-none depth target start end l after x z e h = sym (chain-zero depth target start end l x z e ∙ ap (λ (y : Listing). settledBy row y) h)
+  chain-none depth target start end l after x s r z e h = sym (chain-zero depth target start end l x s z e ∙ ap (λ (y : Listing). settledBy row y) h)
 
   started : (depth target start end l after : ℕ) (fs : List Listed) → ¬ (depth ≡ 0) → calls cb sz l end start ≡ ok fs after → straight target fs ≡ none
       → throughCalls row (chain row cb sz (depth - 1) target) fs after ≡ chain row cb sz depth target start end l
@@ -180,75 +161,59 @@ module _ (row : ℕ → Option View) (cb : ℕ → Call) (sz : ℕ → Option �
   started (suc d) target start end l after fs z q h = let m : suc d - 1 ≡ d = omega arith in rw (m, chain, q, andThen, h)
 
   -- a listing without a straight call, at a depth: its calls are gone through
-  pub record Through (depth target start end l after : ℕ) : Type 0 where
-    pub upto : after ≤ l
-    pub walks : calls cb sz (l - after) end start ≡ ok (listedIn (calls cb sz (l - after) end start)) 0
-    pub rest : throughCalls row (chain row cb sz (depth - 1) target) (listedIn (calls cb sz (l - after) end start)) after ≡ chain row cb sz depth target start end l
+  pub record Through (depth target start end l after : ℕ) (s : Span) : Type 0 where
+    pub upto : s .last ≤ s .from
+    pub rest : throughCalls row (chain row cb sz (depth - 1) target) (callsAmong cb sz (s .from - s .last) (s .pc)) after ≡ chain row cb sz depth target start end l
 
-  pub chain-through : (depth target start end l after : ℕ) (x : Listing) → ¬ (depth ≡ 0) → x ≡ listingOf target (calls cb sz l end start) → x ≡ Other after
-      → Through depth target start end l after
-  chain-through depth target start end l after x z e h = go (calls cb sz l end start) refl
+  pub chain-through : (depth target start end l after : ℕ) (x : Listing) (s : Span) → ¬ (depth ≡ 0)
+      → x ≡ listingOf target (spanFrom cb sz (noSpan start) l end start) (calls cb sz l end start) → x ≡ Other after s → Through depth target start end l after s
+  chain-through depth target start end l after x s z e h = go (calls cb sz l end start) refl
     where
-      go : (o : Out (List Listed)) → calls cb sz l end start ≡ o → Through depth target start end l after
+      r : Span
+      r = spanFrom cb sz (noSpan start) l end start
+
+      go : (o : Out (List Listed)) → calls cb sz l end start ≡ o → Through depth target start end l after s
       go spent q = absurd (let z : _≡_ {A = ℕ} 0 1 = cc in omega arith)
       go (ok fs k) q =
-          let y : listingBy (firstOf (straight target fs)) k ≡ Other after = sym (ap (λ (o : Out (List Listed)). listingOf target o) q) ∙ sym e ∙ h in
+          let y : listingBy (firstOf (straight target fs)) r k ≡ Other after s = sym (ap (λ (o : Out (List Listed)). listingOf target r o) q) ∙ sym e ∙ h in
           by-option (straight target fs)
           (λ g. let v : k ≡ after = cc in
-          let t : Cost (λ m. calls cb sz m end start) l after fs = calls-steady cb sz end start l after fs (q ∙ ap (λ (w : ℕ). ok fs w) v) in
-          let u : l ≡ t .cost + after = t .sum in
-          let m : l - after ≡ t .cost + 0 = omega arith in
-          let w : calls cb sz (l - after) end start ≡ ok fs 0 = rw m (t .takes .enough 0) in
-          record { upto = omega arith; walks = rw w; rest = rw w (started depth target start end l after fs z (q ∙ ap (λ (w : ℕ). ok fs w) v) g) })
+          let u : r ≡ s = cc in
+          let t : Stands cb sz s fs = subst (λ (w : Span). Stands cb sz w fs) u (span-stands cb sz l end start fs k q) in
+          record { upto = t .upto; rest = rw (t .same) (started depth target start end l after fs z (q ∙ ap (λ (w : ℕ). ok fs w) v) g) })
           (λ ra g. absurd (let z : _≡_ {A = ℕ} 0 1 = cc in omega arith))
 
   -- going through calls by a search of so many functions deep, which comes to `goal`
-  module _ (d target stop : ℕ) (goal : Out (Option (List Link))) where
+  module _ (d target : ℕ) (goal : Out (Option (List Link))) where
     abbrev deeper : ℕ → ℕ → ℕ → Out (Option (List Link))
     deeper = chain row cb sz d target
 
     -- what is still to be tried: the calls from pc on, `todo` instructions, with `left` of the allowance
-    pub record Ahead (todo pc left : ℕ) : Type 0 where
-      pub fs : List Listed
-      pub walks : calls cb sz todo stop pc ≡ ok fs 0
-      pub rest : throughCalls row deeper fs left ≡ goal
+    abbrev pub Ahead : ℕ → ℕ → ℕ → Type 0
+    Ahead todo pc left = throughCalls row deeper (callsAmong cb sz todo pc) left ≡ goal
 
-    -- one instruction on
-    record Turn (todo left ra : ℕ) : Type 0 where
-      fs : List Listed
-      walks : calls cb sz (todo - 1) stop ra ≡ ok fs 0
-      rest : on-from row deeper (followCall row ra (cb ra)) fs left ≡ goal
+    -- the same, one instruction before
+    abbrev Turn : ℕ → ℕ → ℕ → Type 0
+    Turn todo left ra = on-from row deeper (followCall row ra (cb ra)) (callsAmong cb sz (todo - 1) ra) left ≡ goal
 
     pub ahead-end : (todo pc left : ℕ) → Ahead todo pc left → todo ≤ 0 → ok none left ≡ goal
+    unfolding throughCalls callsAmong
+    ahead-end todo pc left a h = let z : todo ≡ 0 = omega arith in rw z at a
+
+    pub ahead-stuck : (todo pc left : ℕ) → Ahead todo pc left → sizeOf (sz pc) ≡ Unreadable → ok none left ≡ goal
     unfolding throughCalls
-    ahead-end todo pc left a h =
-        let z : todo ≡ 0 = omega arith in
-        ap (λ (gs : List Listed). throughCalls row deeper gs left) (sym (none-listed cb sz todo stop pc (a .fs) z (a .walks))) ∙ a .rest
+    ahead-stuck todo pc left a u = rw (among-stuck cb sz todo pc (size-not (sz pc) u)) at a
 
     -- going on over instructions that list nothing
-    pub ahead-on : (todo pc left later from : ℕ) → Ahead todo pc left → calls cb sz later stop from ≡ calls cb sz todo stop pc → Ahead later from left
-    ahead-on todo pc left later from a e = record { fs = a .fs; walks = e ∙ a .walks; rest = a .rest }
-
-    pub ahead-reads : (todo pc left : ℕ) → Ahead todo pc left → 0 < todo → sizeOf (sz pc) ≡ Unreadable → ⊥
-    ahead-reads todo pc left a h u =
-        let k : todo ≡ 0 = by-bool (ltb pc stop)
-        (λ t. ok-snd [] (a .fs) todo 0 (sym (calls-stuck cb sz todo stop pc t (size-not (sz pc) u)) ∙ a .walks))
-        (λ t. ok-snd [] (a .fs) todo 0 (sym (calls-end cb sz todo stop pc t) ∙ a .walks)) in
-        omega arith
+    pub ahead-on : (todo pc left later from : ℕ) → Ahead todo pc left → callsAmong cb sz later from ≡ callsAmong cb sz todo pc → Ahead later from left
+    ahead-on todo pc left later from a e = rw e a
 
     ahead-turn : (todo pc left n : ℕ) → Ahead todo pc left → 0 < todo → sizeOf (sz pc) ≡ Is n → Turn todo left (plus pc n)
     ahead-turn zero pc left n a h u = absurd (omega arith)
     ahead-turn (suc t) pc left n a h u =
-        by-bool (ltb pc stop)
-        (λ l. let i : Inside (noted (plus pc n) (cb (plus pc n))) (calls cb sz t stop (plus pc n)) (a .fs) 0 = inside _ _ (a .fs) 0 (sym (calls-visit cb sz t stop pc n l (size-is (sz pc) n u)) ∙ a .walks) in
         let m : suc t - 1 ≡ t = omega arith in
-        record {
-          fs = i .inner;
-          walks = rw m (i .was);
-          rest = sym (through-noted row deeper (plus pc n) (cb (plus pc n)) (i .inner) left)
-              ∙ ap (λ (gs : List Listed). throughCalls row deeper gs left) (sym (i .made)) ∙ a .rest;
-        })
-        (λ l. absurd (let k : suc t ≡ 0 = ok-snd [] (a .fs) (suc t) 0 (sym (calls-end cb sz (suc t) stop pc l) ∙ a .walks) in omega arith))
+        rw m (sym (through-noted row deeper (plus pc n) (cb (plus pc n)) (callsAmong cb sz t (plus pc n)) left)
+        ∙ ap (λ (gs : List Listed). throughCalls row deeper gs left) (sym (among-visit cb sz t pc n (size-is (sz pc) n u))) ∙ a)
 
     module _ (todo pc left n ra : ℕ) (a : Ahead todo pc left) (h : 0 < todo) (u : sizeOf (sz pc) ≡ Is n) (w : ra ≡ plus pc n) (x : Onward) (f : x ≡ onwardOf (followCall row ra (cb ra))) where
       turned : Turn todo left ra
@@ -258,7 +223,7 @@ module _ (row : ℕ → Option View) (cb : ℕ → Call) (sz : ℕ → Option �
       ahead-skip e =
           let t : Turn todo left ra = turned in
           by-option (followCall row ra (cb ra))
-          (λ q. record { fs = t .fs; walks = t .walks; rest = rw q at (t .rest) })
+          (λ q. rw q at t)
           (λ kr q. absurd (let z : _≡_ {A = ℕ} 0 1 = cc in omega arith))
 
       module _ (s e off : ℕ) (to : x ≡ To s e off) (r : Searched) (g : r ≡ searchedOf (deeper s e left)) where
@@ -269,9 +234,7 @@ module _ (row : ℕ → Option View) (cb : ℕ → Call) (sz : ℕ → Option �
         record Made : Type 0 where
           kr : Link × View
           link : kr .0 ≡ record { ra = ra; off = off }
-          fs : List Listed
-          walks : calls cb sz (todo - 1) stop ra ≡ ok fs 0
-          rest : on-by row deeper kr fs below ≡ goal
+          rest : on-by row deeper kr (callsAmong cb sz (todo - 1) ra) below ≡ goal
 
         made : Made
         made =
@@ -285,25 +248,22 @@ module _ (row : ℕ → Option View) (cb : ℕ → Call) (sz : ℕ → Option �
             record {
               kr = kr;
               link = follow-ra row (cb ra) ra kr q ∙ ap (λ (v : ℕ). record { ra = ra; off = v }) o;
-              fs = t .fs;
-              walks = t .walks;
-              rest = sym (on-out row deeper kr (t .fs) left below
-                  (ap (λ (v : ℕ). deeper v (kr .1 .end) left) y ∙ ap (λ (v : ℕ). deeper s v left) z)) ∙ (rw q at (t .rest));
+              rest = sym (on-out row deeper kr (callsAmong cb sz (todo - 1) ra) left below
+                  (ap (λ (v : ℕ). deeper v (kr .1 .end) left) y ∙ ap (λ (v : ℕ). deeper s v left) z)) ∙ (rw q at t);
             })
 
-        by-below : (m : Made) (o : Out (Option (List Link))) → below ≡ o → on-by row deeper (m .kr) (m .fs) o ≡ goal
-        by-below m o q = ap (λ (v : Out (Option (List Link))). on-by row deeper (m .kr) (m .fs) v) (sym q) ∙ m .rest
+        by-below : (m : Made) (o : Out (Option (List Link))) → below ≡ o → on-by row deeper (m .kr) (callsAmong cb sz (todo - 1) ra) o ≡ goal
+        by-below m o q = ap (λ (v : Out (Option (List Link))). on-by row deeper (m .kr) (callsAmong cb sz (todo - 1) ra) v) (sym q) ∙ m .rest
 
         pub ahead-miss : r .outcome ≡ outcome.Missing → Ahead (todo - 1) ra (r .left)
-        ahead-miss m = let t : Made = made in record { fs = t .fs; walks = t .walks; rest = by-below t (ok none (r .left)) (was-missing r below g m) }
+        ahead-miss m = by-below made (ok none (r .left)) (was-missing r below g m)
 
         -- where the function below has failed before
         module _ (cost : ℕ) (took : Takes (λ l. deeper s e l) cost none) where
           pub ahead-again : cost ≤ left → Ahead (todo - 1) ra (left - cost)
           ahead-again i =
-              let t : Made = made in
               let v : left ≡ cost + (left - cost) = omega arith in
-              record { fs = t .fs; walks = t .walks; rest = by-below t (ok none (left - cost)) (ap (λ (l : ℕ). deeper s e l) v ∙ took .enough (left - cost)) }
+              by-below made (ok none (left - cost)) (ap (λ (l : ℕ). deeper s e l) v ∙ took .enough (left - cost))
 
           pub ahead-spent : left < cost → searchedOf spent ≡ searchedOf goal
           ahead-spent i = ap searchedOf (by-below made spent (took .less left i))

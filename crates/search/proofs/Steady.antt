@@ -12,7 +12,7 @@ use Rattle.words.proofs.Cases.{by-bool, by-option}
 use Rattle.rows.specs.View.{View}
 use Rattle.calls.specs.declared.Call.{Call}
 use Rattle.calls.specs.Listing.{Out, spent, ok, andThen, Listed, noted, calls, straight}
-use Rattle.calls.proofs.Turns.{calls-end, calls-stuck, calls-broke, calls-visit}
+use Rattle.calls.proofs.Turns.{ok-fst, ok-snd, calls-end, calls-stuck, calls-broke, calls-visit}
 use Rattle.search.specs.Search.{Link, one, linkAt, follow, throughCalls, chain}
 
 -- f takes u of any allowance and answers a; less is spent
@@ -28,12 +28,6 @@ pub record Cost {A : Type 0} (f : ℕ → Out A) (l k : ℕ) (a : A) : Type 0 wh
 
 abbrev pub Steady : {A : Type 0} → (ℕ → Out A) → Type 0
 Steady {A} f = (l k : ℕ) (a : A) → f l ≡ ok a k → Cost f l k a
-
-pub ok-fst : {A : Type 0} (a b : A) (k l : ℕ) → Path (Out A) (ok a k) (ok b l) → a ≡ b
-ok-fst a b k l e = cc
-
-pub ok-snd : {A : Type 0} (a b : A) (k l : ℕ) → Path (Out A) (ok a k) (ok b l) → k ≡ l
-ok-snd a b k l e = cc
 
 -- what costs nothing
 free : {A : Type 0} (f : ℕ → Out A) (b : A) → ((m : ℕ) → f m ≡ ok b m) → Steady f
@@ -105,7 +99,7 @@ module _ (cb : ℕ → Call) (sz : ℕ → Option ℕ) where
           short c f zero i = calls-broke cb sz end pc n t h
           short c f (suc m) i = turn m ∙ ap made (f m (omega arith))
 
-  pub calls-steady : (end pc : ℕ) → Steady (λ l. calls cb sz l end pc)
+  calls-steady : (end pc : ℕ) → Steady (λ l. calls cb sz l end pc)
   calls-steady end pc zero k fs e =
       by-bool (ltb pc end)
       (λ t. by-option (sz pc)

@@ -10,7 +10,7 @@ use Rattle.calls.specs.declared.Call.{Call}
 use Rattle.calls.specs.declared.Call.the-variants.{None, Indirect, Direct}
 use Rattle.calls.specs.declared.Listing.{Listing}
 use Rattle.calls.specs.declared.Listing.the-variants as listing
-use Rattle.calls.specs.Listing.{Out, spent, ok, Listed}
+use Rattle.calls.specs.Listing.{Out, spent, ok}
 use Rattle.registers.specs.Registers.{newOf}
 use Rattle.search.specs.Search.{Link, one, linkAt, follow}
 use Rattle.search.specs.Recover.{Fit, regained}
@@ -34,11 +34,6 @@ linksOf (k ∷ ks) = set (set (linksOf ks) (2 * length ks) (k .ra)) (2 * length 
 -- no function has failed yet: the search of an empty range fails, and takes nothing
 abbrev pub noneFailed : Failed
 noneFailed = record { start = 0; end = 0; cost = 0 }
-
--- the calls of a listing
-abbrev pub listedIn : Out (List Listed) → List Listed
-listedIn spent = []
-listedIn (ok fs l) = fs
 
 -- a search that found no chain
 abbrev pub noChain : Outcome → ℕ → Searched
@@ -90,7 +85,7 @@ onwardOf (some kr) = To (kr .1 .start) (kr .1 .end) (kr .0 .off)
 abbrev pub settledBy : (ℕ → Option View) → Listing → Out (Option (List Link))
 settledBy row listing.Spent = spent
 settledBy row (listing.Straight ra l) = ok (one (linkAt row ra)) l
-settledBy row (listing.Other l) = ok none l
+settledBy row (listing.Other l s) = ok none l
 
 -- one link more in front of a chain, stored as the last pair; an answer without a chain stays
 abbrev pub withLink : Searched → ℕ → ℕ → Searched

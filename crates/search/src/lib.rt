@@ -18,12 +18,12 @@ ghost use Rattle.book.specs.Good.{bookIsGood};
 ghost use Rattle.rows.specs.View.{viewAt, ruleList};
 ghost use Rattle.code.specs.Code.{codeOf, codeIsGood};
 ghost use Rattle.calls.specs.Call.{callBefore};
-ghost use Rattle.calls.specs.Listing.{sizeAt, ok, andThen, calls as callsOf};
+ghost use Rattle.calls.specs.Listing.{sizeAt, ok, andThen, callsAmong};
 ghost use Rattle.memory.specs.Memory.{memoryOf, memoryIsGood, readAt};
 ghost use Rattle.registers.specs.Registers.{newOf, setOf, placed};
 ghost use Rattle.search.specs.Search.{linkAt, throughCalls, chain};
 ghost use Rattle.search.specs.Recover.{ruleFor, inner, refill as refilled, meetsIf, scan};
-ghost use Rattle.search.specs.Answers.{ruleMade, ruleOf, linkOf, followCall, onwardOf, settledBy, noneFailed, noChain, withLink, searchedOf, listedIn, linksIn, foundIn, Whole, noCaller, recoveredOf};
+ghost use Rattle.search.specs.Answers.{ruleMade, ruleOf, linkOf, followCall, onwardOf, settledBy, noneFailed, noChain, withLink, searchedOf, linksIn, foundIn, Whole, noCaller, recoveredOf};
 
 // How a search ended.
 pub enum Outcome {
@@ -204,7 +204,7 @@ fn settled(
 {
     match listing {
         Listing::Spent => Searched::no_chain(Outcome::Spent, 0),
-        Listing::Other { left } => Searched::no_chain(Outcome::Missing, left),
+        Listing::Other { left, calls: _ } => Searched::no_chain(Outcome::Missing, left),
         Listing::Straight { ra, left } => {
             let LinkAt::Link(off) = link_at(tables, functions, rows, rules, ra) else {
                 return Searched::no_chain(Outcome::Missing, left);
@@ -214,7 +214,8 @@ fn settled(
     }
 }
 
-// The first chain through one of the calls of as many instructions as the spot says, which a listing up to stop has gone through.
+// The first chain through one of the calls from the spot on, among as many instructions as it has left. The function that failed last
+// fails again at the same cost: it is not searched anew.
 fn through_calls(
     tables: &[u32],
     functions: &[u32],
@@ -223,13 +224,12 @@ fn through_calls(
     sections: &[u32],
     code: &[u8],
     spot: Spot,
-    stop: u32,
     target: u32,
     depth: u32,
     allowance: u32,
 ) -> Searched
-    requires { ⌜ (depth ≤ 7) × (bookIsGood (bookOf (now tables) (now functions) (now rows) (now rules)) ≡ true) × (codeIsGood (codeOf (now sections) (now code)) ≡ true) × (callsOf (callBefore (codeOf (now sections) (now code))) (sizeAt (codeOf (now sections) (now code))) (spot .left) stop (spot .pc) ≡ ok (listedIn (callsOf (callBefore (codeOf (now sections) (now code))) (sizeAt (codeOf (now sections) (now code))) (spot .left) stop (spot .pc))) 0) ⌝ }
-    ensures { λ r. ⌜ r ≡ searchedOf (throughCalls (viewAt (bookOf (now (tables .entry)) (now (functions .entry)) (now (rows .entry)) (now (rules .entry)))) (chain (viewAt (bookOf (now (tables .entry)) (now (functions .entry)) (now (rows .entry)) (now (rules .entry)))) (callBefore (codeOf (now (sections .entry)) (now (code .entry)))) (sizeAt (codeOf (now (sections .entry)) (now (code .entry)))) depth target) (listedIn (callsOf (callBefore (codeOf (now (sections .entry)) (now (code .entry)))) (sizeAt (codeOf (now (sections .entry)) (now (code .entry)))) (spot .left) stop (spot .pc))) allowance) ⌝ }
+    requires { ⌜ (depth ≤ 7) × (bookIsGood (bookOf (now tables) (now functions) (now rows) (now rules)) ≡ true) × (codeIsGood (codeOf (now sections) (now code)) ≡ true) ⌝ }
+    ensures { λ r. ⌜ r ≡ searchedOf (throughCalls (viewAt (bookOf (now (tables .entry)) (now (functions .entry)) (now (rows .entry)) (now (rules .entry)))) (chain (viewAt (bookOf (now (tables .entry)) (now (functions .entry)) (now (rows .entry)) (now (rules .entry)))) (callBefore (codeOf (now (sections .entry)) (now (code .entry)))) (sizeAt (codeOf (now (sections .entry)) (now (code .entry)))) depth target) (callsAmong (callBefore (codeOf (now (sections .entry)) (now (code .entry)))) (sizeAt (codeOf (now (sections .entry)) (now (code .entry)))) (spot .left) (spot .pc)) allowance) ⌝ }
 {
     let mut at = spot;
     let mut left = allowance;
@@ -239,7 +239,7 @@ fn through_calls(
             return Searched::no_chain(Outcome::Missing, left);
         };
         let ra = std::num::wrapping_add_u32(at.pc, n);
-        at = calls::pass_over(sections, code, ra, stop, at.left - 1);
+        at = calls::pass_over(sections, code, ra, 0xffff_ffff, at.left - 1);
         let onward = follow(tables, functions, rows, rules, sections, code, ra);
         let Onward::To { start, end, off } = onward else {
             continue;
@@ -276,7 +276,7 @@ fn through_calls(
 }
 
 // A chain of calls from a function's range to the target, through at most depth further functions. The function is listed whole first;
-// then its calls are gone through again, and each that may be followed is.
+// then the stretch that has its calls is gone through again, and each that may be followed is.
 pub fn call_chain(
     tables: &[u32],
     functions: &[u32],
@@ -294,15 +294,15 @@ pub fn call_chain(
     ensures { λ r. ⌜ r ≡ searchedOf (chain (viewAt (bookOf (now (tables .entry)) (now (functions .entry)) (now (rows .entry)) (now (rules .entry)))) (callBefore (codeOf (now (sections .entry)) (now (code .entry)))) (sizeAt (codeOf (now (sections .entry)) (now (code .entry)))) depth target start end allowance) ⌝ }
 {
     let listing = calls::list_calls(sections, code, start, end, target, allowance);
-    let Listing::Other { left } = listing else {
+    let Listing::Other { left, calls: span } = listing else {
         return settled(tables, functions, rows, rules, listing);
     };
     if depth == 0 {
         return Searched::no_chain(Outcome::Missing, left);
     }
     let spot = Spot {
-        pc: start,
-        left: allowance - left,
+        pc: span.pc,
+        left: span.from - span.last,
     };
     through_calls(
         tables,
@@ -312,7 +312,6 @@ pub fn call_chain(
         sections,
         code,
         spot,
-        end,
         target,
         depth - 1,
         left,

@@ -1,42 +1,46 @@
 -- `calls::list_calls` meets its contract: the listing from here on, with what was met before, is the whole. Assumes nothing.
-use mathlib.Core.Path.{_≡_, sym, ap, _∙_}
+use mathlib.Core.Path.{_≡_, sym, _∙_}
 use mathlib.Core.List.{List}
 use native.Mathlib.Omega.{arith}
 use Prim.Native.Nat.{ℕ}
 use mathlib.Core.Bool.{true}
 use borrow.Author.Needs.{needs}
 use borrow.Author.Tests.{lt-ltb, le-ltb}
-use Rattle.code.specs.Code.{codeOf, codeIsGood}
+use Rattle.code.specs.Code.{Code, codeOf, codeIsGood}
 use Rattle.calls.specs.Call.{callBefore}
-use Rattle.calls.specs.Listing.{Out, Listed, calls, sizeAt, listingOf}
+use Rattle.calls.specs.Listing.{noSpan, calls, spanFrom, sizeAt, listingOf}
 use Rattle.calls.specs.Passing.{passedOver}
 use Rattle.calls.specs.declared.First.{First}
+use Rattle.calls.specs.declared.Span.{Span}
 use Rattle.calls.specs.declared.Spot.{Spot}
-use Rattle.calls.proofs.Passes.{over-from}
-use Rattle.calls.proofs.Turns.{resume, resume-start, resume-end, resume-stuck, resume-broke, resume-next, size-is, size-not}
+use Rattle.calls.proofs.Passes.{over-left, over-from}
+use Rattle.calls.proofs.Turns.{resume-start, onward, onward-end, onward-stuck, onward-broke, onward-next, onward-quiet, size-is, size-not}
 use Rattle.calls.proofs.list_calls.Statement.{statement}
 use Rattle.calls.proofs.list_calls.Tie as tie
 
 abbrev Inv-loop : tie.InvT-loop
-Inv-loop sections code start end target allowance pc₀ left₀ first₀ pc left first =
-    resume first target (calls (callBefore (codeOf sections code)) (sizeAt (codeOf sections code)) left end pc)
-    ≡ listingOf target (calls (callBefore (codeOf sections code)) (sizeAt (codeOf sections code)) allowance end start)
+Inv-loop sections code start end target allowance pc₀ left₀ first₀ span₀ pc left first span =
+    let k : Code = codeOf sections code in
+    onward (callBefore k) (sizeAt k) first target span end left pc
+    ≡ listingOf target (spanFrom (callBefore k) (sizeAt k) (noSpan start) allowance end start) (calls (callBefore k) (sizeAt k) allowance end start)
 
 abbrev μ-loop : tie.MeasureT-loop
-μ-loop sections code start end target allowance pc₀ left₀ first₀ pc left first = left
+μ-loop sections code start end target allowance pc₀ left₀ first₀ span₀ pc left first span = left
 
 -- what was passed over leaves the listing as it is
-passed-on : (sections bytes : List ℕ) → codeIsGood (codeOf sections bytes) ≡ true → (f : First) (target start end left : ℕ) (s : Spot) → s ≡ passedOver (codeOf sections bytes) start end left
-    → resume f target (calls (callBefore (codeOf sections bytes)) (sizeAt (codeOf sections bytes)) (s .left) end (s .pc))
-    ≡ resume f target (calls (callBefore (codeOf sections bytes)) (sizeAt (codeOf sections bytes)) left end start)
-passed-on sections bytes g f target start end left s e =
-    ap (λ (o : Out (List Listed)). resume f target o) (over-from (codeOf sections bytes) g start end left s e .1)
+passed-on : (sections bytes : List ℕ) → codeIsGood (codeOf sections bytes) ≡ true → (f : First) (target : ℕ) (r : Span) (start end left : ℕ) (s : Spot)
+    → s ≡ passedOver (codeOf sections bytes) start end left
+    → onward (callBefore (codeOf sections bytes)) (sizeAt (codeOf sections bytes)) f target r end (s .left) (s .pc)
+    ≡ onward (callBefore (codeOf sections bytes)) (sizeAt (codeOf sections bytes)) f target r end left start
+passed-on sections bytes g f target r start end left s e =
+    let k : Code = codeOf sections bytes in
+    over-from k g start end left (onward (callBefore k) (sizeAt k) f target r end) (λ l pc n. onward-quiet (callBefore k) (sizeAt k) f target r end l pc n) s e
 
 loop-holds : tie.Need-loop-holds Inv-loop μ-loop
 loop-holds c =
     let a = c .before .before .args in
     let k = codeOf (a .sections .now) (a .code .now) in
-    resume-start (a .target) (calls (callBefore k) (sizeAt k) (a .allowance) (a .end) (a .start))
+    resume-start (a .target) (spanFrom (callBefore k) (sizeAt k) (noSpan (a .start)) (a .allowance) (a .end) (a .start)) (calls (callBefore k) (sizeAt k) (a .allowance) (a .end) (a .start))
 
 pass-over-requires : tie.Need-pass-over-requires Inv-loop μ-loop
 pass-over-requires c κs = search needs
@@ -45,7 +49,7 @@ listing-requires : tie.Need-listing-requires Inv-loop μ-loop
 listing-requires c κs = search needs
 
 returns : tie.Need-returns Inv-loop μ-loop
-returns c = c .listing .ensures ∙ sym (resume-end _ _ _ _ _ _ _ (le-ltb _ _ (c .before .if1 .taken))) ∙ passed-on _ _ (c .before .before .before .before .before .before .before .pre) _ _ _ _ _ _ (c .before .before .pass-over .ensures) ∙ c .before .before .before .before .loop .inv
+returns c = c .listing .ensures ∙ sym (onward-end _ _ _ _ _ _ _ _ (le-ltb _ _ (c .before .if1 .taken))) ∙ passed-on _ _ (c .before .before .before .before .before .before .before .pre) _ _ _ _ _ _ _ (c .before .before .pass-over .ensures) ∙ c .before .before .before .before .loop .inv
 
 size-at-requires : tie.Need-size-at-requires Inv-loop μ-loop
 size-at-requires c κs = search needs
@@ -60,10 +64,10 @@ listing-requires-2 : tie.Need-listing-requires-2 Inv-loop μ-loop
 listing-requires-2 c κs = search needs
 
 returns-2 : tie.Need-returns-2 Inv-loop μ-loop
-returns-2 c = c .listing2 .ensures ∙ sym (resume-stuck _ _ _ _ _ _ _ (lt-ltb _ _ (c .before .before .before .before .if1 .left)) (size-not _ (sym (c .before .before .before .size-at .ensures) ∙ c .before .enum-told .given .1))) ∙ passed-on _ _ (c .before .before .before .before .before .before .before .before .before .before .pre) _ _ _ _ _ _ (c .before .before .before .before .before .pass-over .ensures) ∙ c .before .before .before .before .before .before .before .loop .inv
+returns-2 c = c .listing2 .ensures ∙ sym (onward-stuck _ _ _ _ _ _ _ _ (lt-ltb _ _ (c .before .before .before .before .if1 .left)) (size-not _ (sym (c .before .before .before .size-at .ensures) ∙ c .before .enum-told .given .1))) ∙ passed-on _ _ (c .before .before .before .before .before .before .before .before .before .before .pre) _ _ _ _ _ _ _ (c .before .before .before .before .before .pass-over .ensures) ∙ c .before .before .before .before .before .before .before .loop .inv
 
 returns-3 : tie.Need-returns-3 Inv-loop μ-loop
-returns-3 c = sym (resume-broke _ _ _ _ _ _ _ _ (c .if2 .taken) (lt-ltb _ _ (c .before .before .before .before .before .if1 .left)) (size-is _ _ (sym (c .before .before .before .before .size-at .ensures) ∙ c .before .before .n .given .1))) ∙ passed-on _ _ (c .before .before .before .before .before .before .before .before .before .before .before .pre) _ _ _ _ _ _ (c .before .before .before .before .before .before .pass-over .ensures) ∙ c .before .before .before .before .before .before .before .before .loop .inv
+returns-3 c = sym (onward-broke _ _ _ _ _ _ _ _ _ (c .if2 .taken) (lt-ltb _ _ (c .before .before .before .before .before .if1 .left)) (size-is _ _ (sym (c .before .before .before .before .size-at .ensures) ∙ c .before .before .n .given .1))) ∙ passed-on _ _ (c .before .before .before .before .before .before .before .before .before .before .before .pre) _ _ _ _ _ _ _ (c .before .before .before .before .before .before .pass-over .ensures) ∙ c .before .before .before .before .before .before .before .before .loop .inv
 
 sub-left : tie.Need-sub-left Inv-loop μ-loop
 sub-left c = search needs
@@ -77,17 +81,20 @@ call-before-requires c κs = search needs
 then-requires : tie.Need-then-requires Inv-loop μ-loop
 then-requires c κs = search needs
 
+then-requires-2 : tie.Need-then-requires-2 Inv-loop μ-loop
+then-requires-2 c κs = search needs
+
 loop-less : tie.Need-loop-less Inv-loop μ-loop
-loop-less c = omega (arith, over-from (codeOf _ _) (c .before .before .before .before .before .before .before .before .before .before .before .before .before .before .pre) _ _ _ _ (c .before .before .before .before .before .before .before .before .before .pass-over .ensures) .0, c .before .before .before .if2 .left)
+loop-less c = omega (arith, over-left (codeOf _ _) (c .before .before .before .before .before .before .before .before .before .before .before .before .before .before .before .pre) _ _ _ _ (c .before .before .before .before .before .before .before .before .before .before .pass-over .ensures), c .before .before .before .before .if2 .left)
 
 loop-again : tie.Need-loop-again Inv-loop μ-loop
-loop-again c = resume-next _ _ _ _ _ _ _ _ _ _ _ (c .before .before .before .before .before .before .before .before .if1 .left) (sym (c .before .before .before .before .before .before .before .size-at .ensures) ∙ c .before .before .before .before .before .n .given .1) (c .before .before .before .if2 .left) (c .before .before .wrapping-add-u32 .ensures) (c .before .call-before .ensures) (c .then .ensures) ∙ passed-on _ _ (c .before .before .before .before .before .before .before .before .before .before .before .before .before .before .pre) _ _ _ _ _ _ (c .before .before .before .before .before .before .before .before .before .pass-over .ensures) ∙ c .before .before .before .before .before .before .before .before .before .before .before .loop .inv
+loop-again c = onward-next _ _ _ _ _ _ _ _ _ _ _ _ _ (c .before .before .before .before .before .before .before .before .before .if1 .left) (sym (c .before .before .before .before .before .before .before .before .size-at .ensures) ∙ c .before .before .before .before .before .before .n .given .1) (c .before .before .before .before .if2 .left) (c .before .before .before .wrapping-add-u32 .ensures) (c .before .before .call-before .ensures) (c .before .then .ensures) (c .then2 .ensures) ∙ passed-on _ _ (c .before .before .before .before .before .before .before .before .before .before .before .before .before .before .before .pre) _ _ _ _ _ _ _ (c .before .before .before .before .before .before .before .before .before .before .pass-over .ensures) ∙ c .before .before .before .before .before .before .before .before .before .before .before .before .loop .inv
 
 listing-requires-3 : tie.Need-listing-requires-3 Inv-loop μ-loop
 listing-requires-3 c κs = search needs
 
 returns-4 : tie.Need-returns-4 Inv-loop μ-loop
-returns-4 c = c .listing3 .ensures ∙ sym (resume-end _ _ _ _ _ _ _ (le-ltb _ _ (c .before .loop-test .left))) ∙ c .before .before .loop .inv
+returns-4 c = c .listing3 .ensures ∙ sym (onward-end _ _ _ _ _ _ _ _ (le-ltb _ _ (c .before .loop-test .left))) ∙ c .before .before .loop .inv
 
 pub list-calls-spec : {M : Type 1} → statement M
 list-calls-spec =
@@ -109,6 +116,7 @@ list-calls-spec =
     wrapping-add-u32-requires
     call-before-requires
     then-requires
+    then-requires-2
     loop-less
     loop-again
     listing-requires-3
