@@ -1,6 +1,6 @@
 -- The lent code: sections as triples (address, byte offset, length) over one slice of bytes, and the words that it holds.
 use Prim.Native.Nat.{ℕ, zero, suc, _+_, _-_, _*_, _/_, _%_, _^_}
-use mathlib.Core.Bool.{Bool, cond, _&&_, _||_}
+use mathlib.Core.Bool.{Bool, true, false, cond, _&&_, _||_}
 use mathlib.Core.List.{List, [], _∷_}
 use lib.ListN.{length, getD}
 use lib.Dec.{ltb, leb, eqb}
@@ -53,6 +53,11 @@ unfoldable pub placeOf : List ℕ → ℕ → ℕ → Place
 placeOf sections n addr =
     let k : ℕ = firstFrom (holdsBytes sections n addr) (length sections / 3) 0 in
     cond (ltb k (length sections / 3)) (At (offset sections k + (addr - address sections k))) Nowhere
+
+-- there is a place
+abbrev pub isPlaced : Place → Bool
+isPlaced (At p) = true
+isPlaced Nowhere = false
 
 -- the number that the n bytes from p on stand for, low byte first
 unfoldable pub little : ℕ → List ℕ → ℕ → ℕ

@@ -5,7 +5,7 @@ ghost use mathlib.Core.Bool.{true};
 ghost use Prim.Native.Nat.{_+_, _*_, _/_, _≤_, _<_, _^_};
 ghost use lib.ListN.{length, getD};
 ghost use Rattle.words.specs.Words.{all, firstFrom};
-ghost use Rattle.code.specs.Code.{codeOf, codeIsGood, holdsBytes, placeOf, little, insnAt, areApart, windowAt};
+ghost use Rattle.code.specs.Code.{codeOf, codeIsGood, holdsBytes, placeOf, isPlaced, little, insnAt, areApart, windowAt};
 
 // Where in the slice some bytes stand.
 pub enum Place {
@@ -70,6 +70,13 @@ fn first_section(sections: &[u32], n: u32, addr: u32) -> usize
         left -= 1;
     }
     k
+}
+
+// Whether some section holds n bytes at addr.
+pub fn has_bytes(sections: &[u32], n: u32, addr: u32) -> bool
+    ensures { λ r. ⌜ r ≡ isPlaced (placeOf (now (sections .entry)) n addr) ⌝ }
+{
+    first_section(sections, n, addr) < sections.len() / 3
 }
 
 // Whether sections k and j have no byte in common.

@@ -547,7 +547,7 @@ pub fn recover(
         let word_addr = addr;
         addr = std::num::wrapping_add_u32(addr, 4);
         fuel -= 1;
-        let Call::Direct(caller_start) = calls::call_before(sections, code, word) else {
+        let Call::Direct(caller_start) = calls::call_before_word(sections, code, word) else {
             continue;
         };
         let Found::Here(entry) = rows::row_for(tables, functions, rows, rules, caller_start) else {

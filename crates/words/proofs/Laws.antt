@@ -142,6 +142,15 @@ first-is P (suc n) i k l h t f =
     let m : suc n - 1 ≡ n = omega arith in
     first-miss P (suc n) i (omega arith) (f i u) ∙ ap (λ (x : ℕ). firstFrom P x (i + 1)) m ∙ first-is P n (i + 1) k (omega arith) (omega arith) t f)
 
+-- where one passes the test, the first is no later
+pub first-by : (P : ℕ → Bool) (n i k : ℕ) → i ≤ k → k < i + n → P k ≡ true → firstFrom P n i ≤ k
+first-by P zero i k l h t = absurd (omega arith)
+first-by P (suc n) i k l h t =
+    by-bool (P i)
+    (λ e. rw (first-hit P (suc n) i (omega arith) e) l)
+    (λ e. let u : i < k = ⊎-elim (λ q. absurd (true≢false (sym t ∙ ap P (sym q) ∙ e))) (λ v. v) (eq-or-lt-of-le l) in
+    rw (first-miss P (suc n) i (omega arith) e, sub-one) (first-by P n (i + 1) k (omega arith) (omega arith) t))
+
 -- the first is at least k, at most k + n
 pub first-from : (P : ℕ → Bool) (n k : ℕ) → k ≤ firstFrom P n k
 unfolding firstFrom

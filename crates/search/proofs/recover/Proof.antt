@@ -56,8 +56,8 @@ wrapping-add-u32-requires c κs = search needs
 sub-fuel : tie.Need-sub-fuel Inv-loop μ-loop
 sub-fuel c = search needs
 
-call-before-requires : tie.Need-call-before-requires Inv-loop μ-loop
-call-before-requires c κs = search needs
+call-before-word-requires : tie.Need-call-before-word-requires Inv-loop μ-loop
+call-before-word-requires c κs = search needs
 
 enum-known-caller-start : tie.Need-enum-known-caller-start Inv-loop μ-loop
 enum-known-caller-start c = search needs
@@ -66,7 +66,7 @@ loop-less : tie.Need-loop-less Inv-loop μ-loop
 loop-less c = search needs
 
 loop-again : tie.Need-loop-again Inv-loop μ-loop
-loop-again c = (c .before .before .wrapping-add-u32 .ok, scan-skip _ _ _ _ _ _ _ _ _ (c .before .before .before .before .before .before .before .loop-test .taken) _ (read-is (memoryOf _ _) _ (c .before .before .before .before .before .before .before .before .loop .inv .0) _ (c .before .before .before .before .before .before .read-u32 .ensures) _ (c .before .before .before .before .word .given .1)) _ _ (c .before .before .wrapping-add-u32 .ensures) (try-other _ _ _ _ _ _ _ _ _ (c .before .call-before .ensures) (not-direct _ (c .match2 .keys2))) ∙ c .before .before .before .before .before .before .before .before .loop .inv .1)
+loop-again c = (c .before .before .wrapping-add-u32 .ok, scan-skip _ _ _ _ _ _ _ _ _ (c .before .before .before .before .before .before .before .loop-test .taken) _ (read-is (memoryOf _ _) _ (c .before .before .before .before .before .before .before .before .loop .inv .0) _ (c .before .before .before .before .before .before .read-u32 .ensures) _ (c .before .before .before .before .word .given .1)) _ _ (c .before .before .wrapping-add-u32 .ensures) (try-other _ _ _ _ _ _ _ _ _ (c .before .call-before-word .ensures) (not-direct _ (c .match2 .keys2))) ∙ c .before .before .before .before .before .before .before .before .loop .inv .1)
 
 row-for-requires : tie.Need-row-for-requires Inv-loop μ-loop
 row-for-requires c κs = search needs
@@ -81,7 +81,7 @@ loop-less-2 : tie.Need-loop-less-2 Inv-loop μ-loop
 loop-less-2 c = search needs
 
 loop-again-2 : tie.Need-loop-again-2 Inv-loop μ-loop
-loop-again-2 c = (c .before .before .before .before .before .before .before .wrapping-add-u32 .ok, scan-skip _ _ _ _ _ _ _ _ _ (c .before .before .before .before .before .before .before .before .before .before .before .before .loop-test .taken) _ (read-is (memoryOf _ _) _ (c .before .before .before .before .before .before .before .before .before .before .before .before .before .loop .inv .0) _ (c .before .before .before .before .before .before .before .before .before .before .before .read-u32 .ensures) _ (c .before .before .before .before .before .before .before .before .before .word .given .1)) _ _ (c .before .before .before .before .before .before .before .wrapping-add-u32 .ensures) (try-norow _ _ _ _ _ _ _ _ _ (c .before .before .before .before .before .before .call-before .ensures) _ (c .before .before .before .before .caller-start .given .1) (view-nothing (bookOf _ _ _ _) _ _ (c .before .before .row-for .ensures) (c .enum-told2 .given .1))) ∙ c .before .before .before .before .before .before .before .before .before .before .before .before .before .loop .inv .1)
+loop-again-2 c = (c .before .before .before .before .before .before .before .wrapping-add-u32 .ok, scan-skip _ _ _ _ _ _ _ _ _ (c .before .before .before .before .before .before .before .before .before .before .before .before .loop-test .taken) _ (read-is (memoryOf _ _) _ (c .before .before .before .before .before .before .before .before .before .before .before .before .before .loop .inv .0) _ (c .before .before .before .before .before .before .before .before .before .before .before .read-u32 .ensures) _ (c .before .before .before .before .before .before .before .before .before .word .given .1)) _ _ (c .before .before .before .before .before .before .before .wrapping-add-u32 .ensures) (try-norow _ _ _ _ _ _ _ _ _ (c .before .before .before .before .before .before .call-before-word .ensures) _ (c .before .before .before .before .caller-start .given .1) (view-nothing (bookOf _ _ _ _) _ _ (c .before .before .row-for .ensures) (c .enum-told2 .given .1))) ∙ c .before .before .before .before .before .before .before .before .before .before .before .before .before .loop .inv .1)
 
 try-caller-requires : tie.Need-try-caller-requires Inv-loop μ-loop
 try-caller-requires c κs = c .before .before .before .before .before .before .before .before .before .before .before .before .before .before .before .before .before .before .before .before .before .before .before .pre
@@ -90,13 +90,13 @@ enum-told-3 : tie.Need-enum-told-3 Inv-loop μ-loop
 enum-told-3 c = search needs
 
 returns-2 : tie.Need-returns-2 Inv-loop μ-loop
-returns-2 c = scan-done _ _ _ _ _ _ _ _ _ (c .before .before .before .before .before .before .before .before .before .before .before .before .before .before .before .loop-test .taken) _ (read-is (memoryOf _ _) _ (c .before .before .before .before .before .before .before .before .before .before .before .before .before .before .before .before .loop .inv .0) _ (c .before .before .before .before .before .before .before .before .before .before .before .before .before .before .read-u32 .ensures) _ (c .before .before .before .before .before .before .before .before .before .before .before .before .word .given .1)) _ _ _ (c .before .try-caller .ensures) (try-row _ _ _ _ _ _ _ _ _ (c .before .before .before .before .before .before .before .before .before .call-before .ensures) _ (c .before .before .before .before .before .before .before .caller-start .given .1) _ (view-here (bookOf _ _ _ _) _ _ (c .before .before .before .before .before .row-for .ensures) _ (c .before .before .before .entry .given .1))) _ (not-missing _ (c .match4 .keys2)) (c .before .before .before .before .before .before .before .before .before .before .before .before .before .before .before .before .loop .inv .1)
+returns-2 c = scan-done _ _ _ _ _ _ _ _ _ (c .before .before .before .before .before .before .before .before .before .before .before .before .before .before .before .loop-test .taken) _ (read-is (memoryOf _ _) _ (c .before .before .before .before .before .before .before .before .before .before .before .before .before .before .before .before .loop .inv .0) _ (c .before .before .before .before .before .before .before .before .before .before .before .before .before .before .read-u32 .ensures) _ (c .before .before .before .before .before .before .before .before .before .before .before .before .word .given .1)) _ _ _ (c .before .try-caller .ensures) (try-row _ _ _ _ _ _ _ _ _ (c .before .before .before .before .before .before .before .before .before .call-before-word .ensures) _ (c .before .before .before .before .before .before .before .caller-start .given .1) _ (view-here (bookOf _ _ _ _) _ _ (c .before .before .before .before .before .row-for .ensures) _ (c .before .before .before .entry .given .1))) _ (not-missing _ (c .match4 .keys2)) (c .before .before .before .before .before .before .before .before .before .before .before .before .before .before .before .before .loop .inv .1)
 
 loop-less-3 : tie.Need-loop-less-3 Inv-loop μ-loop
 loop-less-3 c = omega (arith, c .before .before .before .before .before .before .before .before .before .before .before .before .before .before .before .before .loop-test .taken)
 
 loop-again-3 : tie.Need-loop-again-3 Inv-loop μ-loop
-loop-again-3 c = (c .before .before .before .before .before .before .before .before .before .before .before .wrapping-add-u32 .ok, scan-miss _ _ _ _ _ _ _ _ _ (c .before .before .before .before .before .before .before .before .before .before .before .before .before .before .before .before .loop-test .taken) _ (read-is (memoryOf _ _) _ (c .before .before .before .before .before .before .before .before .before .before .before .before .before .before .before .before .before .loop .inv .0) _ (c .before .before .before .before .before .before .before .before .before .before .before .before .before .before .before .read-u32 .ensures) _ (c .before .before .before .before .before .before .before .before .before .before .before .before .before .word .given .1)) _ _ _ (c .before .before .try-caller .ensures) (try-row _ _ _ _ _ _ _ _ _ (c .before .before .before .before .before .before .before .before .before .before .call-before .ensures) _ (c .before .before .before .before .before .before .before .before .caller-start .given .1) _ (view-here (bookOf _ _ _ _) _ _ (c .before .before .before .before .before .before .row-for .ensures) _ (c .before .before .before .before .entry .given .1))) _ (c .before .before .before .before .before .before .before .before .before .before .before .wrapping-add-u32 .ensures) (c .enum-told3 .given .1) ∙ c .before .before .before .before .before .before .before .before .before .before .before .before .before .before .before .before .before .loop .inv .1)
+loop-again-3 c = (c .before .before .before .before .before .before .before .before .before .before .before .wrapping-add-u32 .ok, scan-miss _ _ _ _ _ _ _ _ _ (c .before .before .before .before .before .before .before .before .before .before .before .before .before .before .before .before .loop-test .taken) _ (read-is (memoryOf _ _) _ (c .before .before .before .before .before .before .before .before .before .before .before .before .before .before .before .before .before .loop .inv .0) _ (c .before .before .before .before .before .before .before .before .before .before .before .before .before .before .before .read-u32 .ensures) _ (c .before .before .before .before .before .before .before .before .before .before .before .before .before .word .given .1)) _ _ _ (c .before .before .try-caller .ensures) (try-row _ _ _ _ _ _ _ _ _ (c .before .before .before .before .before .before .before .before .before .before .call-before-word .ensures) _ (c .before .before .before .before .before .before .before .before .caller-start .given .1) _ (view-here (bookOf _ _ _ _) _ _ (c .before .before .before .before .before .before .row-for .ensures) _ (c .before .before .before .before .entry .given .1))) _ (c .before .before .before .before .before .before .before .before .before .before .before .wrapping-add-u32 .ensures) (c .enum-told3 .given .1) ∙ c .before .before .before .before .before .before .before .before .before .before .before .before .before .before .before .before .before .loop .inv .1)
 
 no-caller-requires-2 : tie.Need-no-caller-requires-2 Inv-loop μ-loop
 no-caller-requires-2 c κs = search needs
@@ -119,7 +119,7 @@ recover-spec =
     returns
     wrapping-add-u32-requires
     sub-fuel
-    call-before-requires
+    call-before-word-requires
     enum-known-caller-start
     loop-less
     loop-again
