@@ -21,18 +21,28 @@ use Rattle.calls.specs.declared.Spot.{Spot}
 use Rattle.calls.specs.Encoding.{isJal, isJalr, isCJal, isCJalr}
 use Rattle.calls.specs.Call.{wideCall, shortCall, callBefore}
 use Rattle.calls.specs.Listing.{callsAmong, sizeAt}
-use Rattle.calls.specs.Passing.{mayCall, quietSize, spotAt, least, passed, passedOver}
+use Rattle.calls.specs.Passing.{mayBegin, mayBeShort, mayCall, quietSize, spotAt, least, passed, passedOver}
 use Rattle.calls.proofs.Turns.{among-quiet}
 
 -- the size of a quiet instruction, by its first halfword
 module _ (b : List ℕ) (p half : ℕ) (e : half ≡ little 2 b p) (m : Bool) where
-  pub quiet-wide : (next : ℕ) → next ≡ little 2 b (p + 2) → half % 4 ≡ 3 → m ≡ mayCall half next → cond m 0 4 ≡ quietSize b p
-  unfolding quietSize
-  quiet-wide next f h q = rw (q, f, e, eq-eqb _ _ (rw e at h))
+  module _ (h : half % 4 ≡ 3) (q : m ≡ mayBegin half) where
+    pub wide-begins : m ≡ true → 0 ≡ quietSize b p
+    unfolding quietSize
+    wide-begins t = sym (rw (← e, eq-eqb _ _ h, ← q, t))
 
-  pub quiet-short : (last : ℕ) → last ≡ little 2 b (p - 2) → ¬ (half % 4 ≡ 3) → m ≡ mayCall last half → cond m 0 2 ≡ quietSize b p
-  unfolding quietSize
-  quiet-short last f h q = rw (q, f, e, ne-eqb _ _ (rw e at h))
+    pub wide-ends : (next : ℕ) (k : Bool) → m ≡ false → next ≡ little 2 b (p + 2) → k ≡ mayBeShort next → cond k 0 4 ≡ quietSize b p
+    unfolding quietSize
+    wide-ends next k t f r = sym (rw (← e, eq-eqb _ _ h, ← f, ← q, t, ← r))
+
+  module _ (h : ¬ (half % 4 ≡ 3)) (last : ℕ) (f : last ≡ little 2 b (p - 2)) (q : m ≡ mayBegin last) where
+    pub short-begins : m ≡ true → 0 ≡ quietSize b p
+    unfolding quietSize
+    short-begins t = sym (rw (← e, ne-eqb _ _ h, ← f, ← q, t))
+
+    pub short-ends : (k : Bool) → m ≡ false → k ≡ mayBeShort half → cond k 0 2 ≡ quietSize b p
+    unfolding quietSize
+    short-ends k t r = sym (rw (← e, ne-eqb _ _ h, ← f, ← q, t, ← r))
 
 -- passing on, an instruction at a time
 module _ (b : List ℕ) (place stop : ℕ) where
@@ -41,7 +51,7 @@ module _ (b : List ℕ) (place stop : ℕ) where
   pass-stop zero d h = refl
   pass-stop (suc l) d h = sym (rw (le-ltb d stop h, passed))
 
-  pub pass-broke : (left d : ℕ) → left ≡ 0 → spotAt d left ≡ passed b place stop left d
+  pub pass-broke : (left d : ℕ) → left ≤ 0 → spotAt d left ≡ passed b place stop left d
   unfolding passed
   pass-broke zero d h = refl
   pass-broke (suc l) d h = absurd (omega arith)
@@ -51,9 +61,9 @@ module _ (b : List ℕ) (place stop : ℕ) where
   pass-call zero d h = refl
   pass-call (suc l) d h = by-bool (ltb d stop) (λ t. sym (rw (t, passed, eq-eqb _ _ h))) (λ t. sym (rw (t, passed)))
 
-  pub pass-on : (left d n : ℕ) → d < stop → ¬ (left ≡ 0) → n ≡ quietSize b (place + d) → ¬ (n ≡ 0) → passed b place stop (left - 1) (d + n) ≡ passed b place stop left d
+  pub pass-on : (left d n : ℕ) → d < stop → 0 < left → n ≡ quietSize b (place + d) → ¬ (n ≡ 0) → passed b place stop (left - 1) (d + n) ≡ passed b place stop left d
   unfolding passed
-  pass-on zero d n t z e h = absurd (z refl)
+  pass-on zero d n t z e h = absurd (omega arith)
   pass-on (suc l) d n t z e h =
       let m : suc l - 1 ≡ l = omega arith in
       rw (m, e) (sym (rw (lt-ltb d stop t, passed, ne-eqb _ _ (rw e at h))))
@@ -71,11 +81,11 @@ module _ (b : List ℕ) (place stop : ℕ) where
 -- halfwords that may be no call are none
 module _ (f l : ℕ) (h : mayCall f l ≡ false) where
   -- the parts of the test
-  no-wide : (eqb (f % 128) 0b1101111 || eqb (f % 128) 0b1100111) ≡ false
-  no-wide = or-left (eqb (f % 128) 0b1101111 || eqb (f % 128) 0b1100111) (isCJal l || (eqb (l % 128) 0b0000010 && eqb (l / 4096 % 16) 0b1001)) h
+  no-wide : mayBegin f ≡ false
+  no-wide = or-left (mayBegin f) (mayBeShort l) h
 
-  no-short : (isCJal l || (eqb (l % 128) 0b0000010 && eqb (l / 4096 % 16) 0b1001)) ≡ false
-  no-short = or-right (eqb (f % 128) 0b1101111 || eqb (f % 128) 0b1100111) (isCJal l || (eqb (l % 128) 0b0000010 && eqb (l / 4096 % 16) 0b1001)) h
+  no-short : mayBeShort l ≡ false
+  no-short = or-right (mayBegin f) (mayBeShort l) h
 
   low-half : (f + 65536 * l) % 128 ≡ f % 128
   low-half = omega arith

@@ -10,10 +10,17 @@ use Rattle.code.specs.declared.Window.{Window}
 use Rattle.calls.specs.Encoding.{isCJal}
 use Rattle.calls.specs.declared.Spot.{Spot}
 
--- two halfwords before a return address that may be a call: the opcode of `jal` or `jalr`, or `c.jal`, or `c.jalr` of any register
+-- a halfword that may begin a 32-bit call: the opcode of `jal` or `jalr`
+abbrev pub mayBegin : ℕ → Bool
+mayBegin half = eqb (low half 6) 0b1101111 || eqb (low half 6) 0b1100111
+
+-- a halfword that may be a 16-bit call: `c.jal`, or `c.jalr` of any register
+abbrev pub mayBeShort : ℕ → Bool
+mayBeShort half = isCJal half || (eqb (low half 6) 0b0000010 && eqb (bits half 15 12) 0b1001)
+
+-- two halfwords before a return address that may be a call
 abbrev pub mayCall : ℕ → ℕ → Bool
-mayCall first last =
-    (eqb (low first 6) 0b1101111 || eqb (low first 6) 0b1100111) || (isCJal last || (eqb (low last 6) 0b0000010 && eqb (bits last 15 12) 0b1001))
+mayCall first last = mayBegin first || mayBeShort last
 
 -- the size of the instruction at p, or 0 where it may be a call
 unfoldable pub quietSize : List ℕ → ℕ → ℕ

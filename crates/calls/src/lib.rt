@@ -8,7 +8,7 @@ ghost use lib.ListN.{length};
 ghost use Rattle.code.specs.Code.{codeOf, codeIsGood};
 ghost use Rattle.calls.specs.Encoding.{isJal, isJalr, isAuipc, isCJal, isCJalr};
 ghost use Rattle.calls.specs.Call.{farCall, wideCall, shortCall, callBefore};
-ghost use Rattle.calls.specs.Passing.{mayCall, quietSize, least as leastOf, passed, passedOver};
+ghost use Rattle.calls.specs.Passing.{mayBegin, mayBeShort, quietSize, least as leastOf, passed, passedOver};
 ghost use Rattle.calls.specs.Listing.{sizeAt, sizeOf, noSpan, spanThen, firstThen, listingBy, listingOf, calls, spanFrom};
 
 // A call instruction, with its target unless it goes through a register.
@@ -189,32 +189,42 @@ pub fn size_at(sections: &[u32], code: &[u8], pc: u32) -> Size
     }
 }
 
-// Whether two halfwords before a return address may be a call.
-fn may_call(first: u32, last: u32) -> bool
-    ensures { λ r. ⌜ r ≡ mayCall first last ⌝ }
+// Whether a halfword may begin a 32-bit call.
+fn may_begin(half: u32) -> bool
+    ensures { λ r. ⌜ r ≡ mayBegin half ⌝ }
 {
-    (first % 0x80 == 0x6f)
-        | (first % 0x80 == 0x67)
-        | (is_c_jal(last) | ((last % 0x80 == 2) & (last / 0x1000 % 0x10 == 9)))
+    (half % 0x80 == 0x6f) | (half % 0x80 == 0x67)
 }
 
-// The size of the instruction at p, or 0 where it may be a call.
+// Whether a halfword may be a 16-bit call.
+fn may_be_short(half: u32) -> bool
+    ensures { λ r. ⌜ r ≡ mayBeShort half ⌝ }
+{
+    is_c_jal(half) | ((half % 0x80 == 2) & (half / 0x1000 % 0x10 == 9))
+}
+
+// The size of the instruction at p, or 0 where it may be a call. Each way through has its own tests: joined, they take longer.
 fn quiet_size(code: &[u8], p: usize) -> u32
     requires { ⌜ (2 ≤ p) × (p + 4 ≤ length (now code)) ⌝ }
     ensures { λ r. ⌜ (r ≡ quietSize (now (code .entry)) p) × (r ≤ 4) ⌝ }
 {
     let half = code::little2(code, p);
     if half % 4 == 3 {
-        if may_call(half, code::little2(code, p + 2)) {
-            0
-        } else {
-            4
+        if may_begin(half) {
+            return 0;
         }
-    } else if may_call(code::little2(code, p - 2), half) {
-        0
-    } else {
-        2
+        if may_be_short(code::little2(code, p + 2)) {
+            return 0;
+        }
+        return 4;
     }
+    if may_begin(code::little2(code, p - 2)) {
+        return 0;
+    }
+    if may_be_short(half) {
+        return 0;
+    }
+    2
 }
 
 // Passes over the instructions from d on, before stop, that are surely no calls: distances from place on in the slice.
@@ -224,8 +234,8 @@ fn pass(code: &[u8], place: usize, from: u32, stop: u32, allowance: u32) -> Spot
 {
     let mut d = from;
     let mut left = allowance;
-    while d < stop {
-        if left == 0 {
+    while 0 < left {
+        if stop <= d {
             return Spot { pc: d, left };
         }
         let n = quiet_size(code, place + words::wide(d));

@@ -18,7 +18,7 @@ loop-holds : tie.Need-loop-holds Inv-loop μ-loop
 loop-holds c = (omega arith, refl)
 
 returns : tie.Need-returns Inv-loop μ-loop
-returns c = pass-broke _ _ _ _ _ (c .if1 .taken) ∙ c .before .before .loop .inv .1
+returns c = pass-stop _ _ _ _ _ (c .if1 .taken) ∙ c .before .before .loop .inv .1
 
 wide-requires : tie.Need-wide-requires Inv-loop μ-loop
 wide-requires c κs = search needs
@@ -42,10 +42,10 @@ loop-less : tie.Need-loop-less Inv-loop μ-loop
 loop-less c = search needs
 
 loop-again : tie.Need-loop-again Inv-loop μ-loop
-loop-again c = (omega arith, pass-on _ _ _ _ _ _ (c .before .before .before .before .loop-test .taken) (c .before .before .before .if1 .left) (cc) (c .if2 .left) ∙ c .before .before .before .before .before .loop .inv .1)
+loop-again c = (omega arith, pass-on _ _ _ _ _ _ (c .before .before .before .if1 .left) (c .before .before .before .before .loop-test .taken) (cc) (c .if2 .left) ∙ c .before .before .before .before .before .loop .inv .1)
 
 returns-3 : tie.Need-returns-3 Inv-loop μ-loop
-returns-3 c = pass-stop _ _ _ _ _ (c .loop-test .left) ∙ c .before .loop .inv .1
+returns-3 c = pass-broke _ _ _ _ _ (c .loop-test .left) ∙ c .before .loop .inv .1
 
 pub pass-spec : {M : Type 1} → statement M
 pass-spec =
