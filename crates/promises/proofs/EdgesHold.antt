@@ -6,7 +6,7 @@ use Rattle.words.specs.Words.{sum, all, any, every, rising, firstFrom, howMany}
 use Rattle.memory.specs.Memory.{memoryIsGood, holdsWord, wordFrom, wordAt, readAt}
 use Rattle.code.specs.Code.{codeIsGood, holdsBytes, placeOf, little, insnAt}
 use Rattle.book.specs.Good.{operandFits, countsAreGood, fieldsAreGood, bookIsGood}
-use Rattle.rows.specs.Row.{anyRa, savesRa, lastSp, rowAt, rowIn, started, lastHaving, rowInTable, rowFrom, rowFor}
+use Rattle.rows.specs.Row.{anyRa, savesRa, lastSp, rowAt, placeIn, started, lastHaving, placeInTable, placeFrom, placeFor, rowFor}
 use Rattle.rows.specs.View.{ruleList, viewAt}
 use Rattle.calls.specs.Call.{callBefore, wideCall, farCall, shortCall}
 use Rattle.calls.specs.Listing.{andThen, sizeAt, noted, straight, calls}
@@ -20,7 +20,7 @@ use Rattle.promises.specs.Edges.{edges, got}
 
 -- every edge comes out as the table says
 pub edges-hold : map (λ e. got (e .asked)) edges ≡ map (λ e. e .want) edges
-unfolding sum any firstFrom howMany holdsWord wordFrom wordAt readAt holdsBytes placeOf little insnAt anyRa savesRa lastSp rowAt rowIn started lastHaving rowInTable rowFrom rowFor ruleList viewAt callBefore wideCall farCall shortCall andThen sizeAt noted straight calls readBy setOf clearOf linkAt follow throughCalls chain inner ruleFor meets meetsIf tryWord scan refill keep keepers frameAddress valueBy byRules onTo above noRow step rulesMade stepMade refillMade longer above? after regain finish advance walk code book withoutSp registers memory shorter
+unfolding sum any firstFrom howMany holdsWord wordFrom wordAt readAt holdsBytes placeOf little insnAt anyRa savesRa lastSp rowAt placeIn started lastHaving placeInTable placeFrom placeFor rowFor ruleList viewAt callBefore wideCall farCall shortCall andThen sizeAt noted straight calls readBy setOf clearOf linkAt follow throughCalls chain inner ruleFor meets meetsIf tryWord scan refill keep keepers frameAddress valueBy byRules onTo above noRow step rulesMade stepMade refillMade longer above? after regain finish advance walk code book withoutSp registers memory shorter
 edges-hold = refl
 
 -- none of the sheet's lists is refused, with its last word or without

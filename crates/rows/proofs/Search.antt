@@ -10,8 +10,8 @@ use borrow.Author.Tests.{le-leb, lt-leb}
 use Rattle.words.specs.Words.{rising, sum}
 use Rattle.words.proofs.Laws.{risen, how-many, how-many-upto}
 use Rattle.book.specs.Book.{Book, functionStart, functionCount}
-use Rattle.rows.specs.Row.{started, functionHas, lastHaving, rowOf, rowInTable, orElse, rowFrom}
-use Rattle.rows.specs.declared.Found.the-variants.{Nothing}
+use Rattle.rows.specs.Row.{started, functionHas, lastHaving, placeBy, placeInTable, orElse, placeFrom}
+use Rattle.rows.specs.declared.Place.the-variants.{Nowhere}
 use Rattle.rows.specs.declared.Covering.{Covering}
 use Rattle.rows.specs.declared.Covering.the-variants.{Function, Uncovered}
 
@@ -90,10 +90,10 @@ module _ (fs : List ℕ) (pc first : ℕ) where
       go false e ih = omega (arith, ih e)
 
 -- what is found in a table, by what was searched
-pub table-row : (fs rows rules : List ℕ) (pc first n k : ℕ) (found was : Covering) → k ≡ started fs pc first n → found ≡ lastHaving fs pc first 4 k → found ≡ was
-    → rowOf fs rows rules pc was ≡ rowInTable fs rows rules pc first n
-unfolding rowInTable
-table-row fs rows rules pc first n k found was e₁ e₂ e = simp (← e, e₂, e₁)
+pub table-row : (fs rows : List ℕ) (pc first n k : ℕ) (found was : Covering) → k ≡ started fs pc first n → found ≡ lastHaving fs pc first 4 k → found ≡ was
+    → placeBy fs rows pc was ≡ placeInTable fs rows pc first n
+unfolding placeInTable
+table-row fs rows pc first n k found was e₁ e₂ e = simp (← e, e₂, e₁)
 
 -- a function that was found is one of the table's
 pub table-within : (fs : List ℕ) (pc first n k f : ℕ) (found : Covering) → k ≡ started fs pc first n → found ≡ lastHaving fs pc first 4 k → found ≡ Function f
@@ -102,13 +102,13 @@ table-within fs pc first n k f found e₁ e₂ e =
     omega (arith, started-upto fs pc first n, having-within fs pc first 4 k f (sym e₂ ∙ e))
 
 module _ (b : Book) (pc : ℕ) where
-  pub no-tables : (n t : ℕ) → n ≤ 0 → rowFrom b pc n t ≡ Nothing
-  unfolding rowFrom
+  pub no-tables : (n t : ℕ) → n ≤ 0 → placeFrom b pc n t ≡ Nowhere
+  unfolding placeFrom
   no-tables zero t h = refl
   no-tables (suc n) t h = absurd (omega arith)
 
-  pub one-table : (n t : ℕ) → 0 < n → rowFrom b pc n t
-      ≡ orElse (rowInTable (b .functions) (b .rows) (b .rules) pc (sum t (functionCount (b .tables))) (functionCount (b .tables) t)) (rowFrom b pc (n - 1) (t + 1))
-  unfolding rowFrom
+  pub one-table : (n t : ℕ) → 0 < n → placeFrom b pc n t
+      ≡ orElse (placeInTable (b .functions) (b .rows) pc (sum t (functionCount (b .tables))) (functionCount (b .tables) t)) (placeFrom b pc (n - 1) (t + 1))
+  unfolding placeFrom
   one-table zero t h = absurd (omega arith)
   one-table (suc n) t h = rw sub-one

@@ -12,6 +12,10 @@ use Rattle.rows.specs.declared.SpOffset.{SpOffset}
 use Rattle.rows.specs.declared.SpOffset.the-variants.{Is, Unknown}
 use Rattle.rows.specs.declared.Covering.{Covering}
 use Rattle.rows.specs.declared.Covering.the-variants.{Function, Uncovered}
+use Rattle.rows.specs.declared.Place.{Place}
+use Rattle.rows.specs.declared.Place.the-variants.{Stands, Nowhere}
+use Rattle.rows.specs.declared.Around.{Around}
+use Rattle.rows.specs.declared.Around.the-variants.{Within, Outside}
 use Rattle.rows.specs.declared.Found.{Found}
 use Rattle.rows.specs.declared.Found.the-variants.{Here, Nothing}
 
@@ -55,10 +59,10 @@ rowAt functions rows rules f r = record {
 }
 
 -- the first row of function f that is for pc
-unfoldable pub rowIn : List ℕ → List ℕ → List ℕ → ℕ → ℕ → Found
-rowIn functions rows rules pc f =
+unfoldable pub placeIn : List ℕ → List ℕ → ℕ → ℕ → Place
+placeIn functions rows pc f =
     let r = firstFrom (rowHas rows pc) (rowCount functions f) (firstRow functions f) in
-    cond (ltb r (firstRow functions f + rowCount functions f)) (Here (rowAt functions rows rules f r)) Nothing
+    cond (ltb r (firstRow functions f + rowCount functions f)) (Stands f r) Nowhere
 
 -- function f contains pc
 abbrev pub functionHas : List ℕ → ℕ → ℕ → Bool
@@ -76,28 +80,47 @@ lastHaving functions pc first (suc t) (suc n) =
     cond (functionHas functions pc (first + n)) (Function (first + n)) (lastHaving functions pc first t n)
 
 -- the first row of the function that was found; no other function is tried in its table
-abbrev pub rowOf : List ℕ → List ℕ → List ℕ → ℕ → Covering → Found
-rowOf functions rows rules pc (Function f) = rowIn functions rows rules pc f
-rowOf functions rows rules pc Uncovered = Nothing
+abbrev pub placeBy : List ℕ → List ℕ → ℕ → Covering → Place
+placeBy functions rows pc (Function f) = placeIn functions rows pc f
+placeBy functions rows pc Uncovered = Nowhere
 
 -- the row in the table of the n functions from `first` on: of the last four that start at or before pc
-unfoldable pub rowInTable : List ℕ → List ℕ → List ℕ → ℕ → ℕ → ℕ → Found
-rowInTable functions rows rules pc first n =
-    rowOf functions rows rules pc (lastHaving functions pc first 4 (started functions pc first n))
+unfoldable pub placeInTable : List ℕ → List ℕ → ℕ → ℕ → ℕ → Place
+placeInTable functions rows pc first n =
+    placeBy functions rows pc (lastHaving functions pc first 4 (started functions pc first n))
 
--- a row, or where there is none the other
-abbrev pub orElse : Found → Found → Found
-orElse (Here r) other = Here r
-orElse Nothing other = other
+-- a row's place, or where there is none the other
+abbrev pub orElse : Place → Place → Place
+orElse (Stands f r) other = Stands f r
+orElse Nowhere other = other
 
 -- the n tables from t on, in order
-unfoldable pub rowFrom : Book → ℕ → ℕ → ℕ → Found
-rowFrom b pc zero t = Nothing
-rowFrom b pc (suc n) t =
+unfoldable pub placeFrom : Book → ℕ → ℕ → ℕ → Place
+placeFrom b pc zero t = Nowhere
+placeFrom b pc (suc n) t =
     orElse
-    (rowInTable (b .functions) (b .rows) (b .rules) pc (sum t (functionCount (b .tables))) (functionCount (b .tables) t))
-    (rowFrom b pc n (t + 1))
+    (placeInTable (b .functions) (b .rows) pc (sum t (functionCount (b .tables))) (functionCount (b .tables) t))
+    (placeFrom b pc n (t + 1))
+
+-- where the row in force at pc stands
+unfoldable pub placeFor : Book → ℕ → Place
+placeFor b pc = placeFrom b pc (length (b .tables)) 0
+
+-- the row that stands there
+abbrev pub rowOf : Book → Place → Found
+rowOf b (Stands f r) = Here (rowAt (b .functions) (b .rows) (b .rules) f r)
+rowOf b Nowhere = Nothing
 
 -- the row in force at pc
 unfoldable pub rowFor : Book → ℕ → Found
-rowFor b pc = rowFrom b pc (length (b .tables)) 0
+rowFor b pc = rowOf b (placeFor b pc)
+
+-- a row's `sp_cfa_offset`, unknown where there is no row
+abbrev pub offsetOf : Found → SpOffset
+offsetOf (Here r) = r .«sp_cfa_offset»
+offsetOf Nothing = Unknown
+
+-- a row's function
+abbrev pub aroundOf : Found → Around
+aroundOf (Here r) = Within (r .«function_start») (r .«function_end») (r .«function_saves_ra»)
+aroundOf Nothing = Outside

@@ -8,7 +8,7 @@ ghost use Rattle.words.specs.Words.{within, field, firstFrom, rising};
 ghost use Rattle.book.specs.Book.{bookOf, rowCount, firstRow};
 ghost use Rattle.book.specs.Fit.{RowsFit, FunctionsFit};
 ghost use Rattle.book.specs.Good.{bookIsGood};
-ghost use Rattle.rows.specs.Row.{rowHas, anyRa, listsRa, savesRa, spBased, lastSp, rowAt, rowIn, started, lastHaving, rowInTable, rowFor};
+ghost use Rattle.rows.specs.Row.{rowHas, anyRa, listsRa, savesRa, spBased, lastSp, rowAt, placeIn, started, lastHaving, placeInTable, placeFor, rowFor, offsetOf, aroundOf};
 
 // The offset of the last sp-based frame address of the function up to a row.
 pub enum SpOffset {
@@ -33,6 +33,22 @@ pub struct Row {
 pub enum Found {
     Here(Row),
     Nothing,
+}
+
+// Where a row stands: the function that has it, and its number.
+pub enum Place {
+    Stands { function: usize, row: usize },
+    Nowhere,
+}
+
+// The function of a row: its range, and whether it saves ra.
+pub enum Around {
+    Within {
+        start: u32,
+        end: u32,
+        saves_ra: bool,
+    },
+    Outside,
 }
 
 // The function of a table that contains a pc.
@@ -154,17 +170,20 @@ fn row_at(functions: &[u32], rows: &[u32], rules: &[u32], f: usize, r: usize) ->
 }
 
 // The first row of function f that contains pc.
-fn row_in(functions: &[u32], rows: &[u32], rules: &[u32], pc: u32, f: usize) -> Found
-    requires { ⌜ (f < length (now functions) / 4) × (firstRow (now functions) f + rowCount (now functions) f ≤ length (now rows) / 7) × RowsFit (now rows) (now rules) ⌝ }
-    ensures { λ x. ⌜ x ≡ rowIn (now (functions .entry)) (now (rows .entry)) (now (rules .entry)) pc f ⌝ }
+fn place_in(functions: &[u32], rows: &[u32], pc: u32, f: usize) -> Place
+    requires { ⌜ (f < length (now functions) / 4) × (firstRow (now functions) f + rowCount (now functions) f ≤ length (now rows) / 7) ⌝ }
+    ensures { λ x. ⌜ x ≡ placeIn (now (functions .entry)) (now (rows .entry)) pc f ⌝ }
 {
     let first = words::wide(words::word(functions, 4, f, 2));
     let n = words::wide(words::word(functions, 4, f, 3));
     let r = first_row(rows, pc, n, first);
     if r < first + n {
-        Found::Here(row_at(functions, rows, rules, f, r))
+        Place::Stands {
+            function: f,
+            row: r,
+        }
     } else {
-        Found::Nothing
+        Place::Nowhere
     }
 }
 
@@ -207,41 +226,86 @@ fn last_having(functions: &[u32], pc: u32, first: usize, n: usize) -> Covering
 }
 
 // The row in the table of the n functions from first on.
-fn row_in_table(
-    functions: &[u32],
-    rows: &[u32],
-    rules: &[u32],
-    pc: u32,
-    first: usize,
-    n: usize,
-) -> Found
-    requires { ⌜ (first + n ≤ length (now functions) / 4) × (rising 0 (now functions) 4 0 first n ≡ true) × FunctionsFit (now functions) (now rows) × RowsFit (now rows) (now rules) ⌝ }
-    ensures { λ r. ⌜ r ≡ rowInTable (now (functions .entry)) (now (rows .entry)) (now (rules .entry)) pc first n ⌝ }
+fn place_in_table(functions: &[u32], rows: &[u32], pc: u32, first: usize, n: usize) -> Place
+    requires { ⌜ (first + n ≤ length (now functions) / 4) × (rising 0 (now functions) 4 0 first n ≡ true) × FunctionsFit (now functions) (now rows) ⌝ }
+    ensures { λ r. ⌜ r ≡ placeInTable (now (functions .entry)) (now (rows .entry)) pc first n ⌝ }
 {
     let k = started_by(functions, pc, first, n);
     let Covering::Function(f) = last_having(functions, pc, first, k) else {
-        return Found::Nothing;
+        return Place::Nowhere;
     };
-    row_in(functions, rows, rules, pc, f)
+    place_in(functions, rows, pc, f)
 }
 
-// The row for a pc: the tables in order.
-pub fn row_for(tables: &[u32], functions: &[u32], rows: &[u32], rules: &[u32], pc: u32) -> Found
+// Where the row for a pc stands: the tables in order. The rules are not read; they belong to the book that is good.
+fn place_for(tables: &[u32], functions: &[u32], rows: &[u32], rules: &[u32], pc: u32) -> Place
     requires { ⌜ bookIsGood (bookOf (now tables) (now functions) (now rows) (now rules)) ≡ true ⌝ }
-    ensures { λ r. ⌜ r ≡ rowFor (bookOf (now (tables .entry)) (now (functions .entry)) (now (rows .entry)) (now (rules .entry))) pc ⌝ }
+    ensures { λ r. ⌜ r ≡ placeFor (bookOf (now (tables .entry)) (now (functions .entry)) (now (rows .entry)) (now (rules .entry))) pc ⌝ }
 {
     let mut first: usize = 0;
     let mut t = 0;
     let mut left = tables.len();
     while 0 < left {
         let n = words::wide(words::word(tables, 1, t, 0));
-        let Found::Here(r) = row_in_table(functions, rows, rules, pc, first, n) else {
+        let Place::Stands { function, row } = place_in_table(functions, rows, pc, first, n) else {
             first += n;
             t += 1;
             left -= 1;
             continue;
         };
-        return Found::Here(r);
+        return Place::Stands { function, row };
     }
-    Found::Nothing
+    Place::Nowhere
+}
+
+// The row for a pc.
+pub fn row_for(tables: &[u32], functions: &[u32], rows: &[u32], rules: &[u32], pc: u32) -> Found
+    requires { ⌜ bookIsGood (bookOf (now tables) (now functions) (now rows) (now rules)) ≡ true ⌝ }
+    ensures { λ r. ⌜ r ≡ rowFor (bookOf (now (tables .entry)) (now (functions .entry)) (now (rows .entry)) (now (rules .entry))) pc ⌝ }
+{
+    let Place::Stands { function, row } = place_for(tables, functions, rows, rules, pc) else {
+        return Found::Nothing;
+    };
+    Found::Here(row_at(functions, rows, rules, function, row))
+}
+
+// Of the row for a pc, the offset of sp alone.
+pub fn offset_for(
+    tables: &[u32],
+    functions: &[u32],
+    rows: &[u32],
+    rules: &[u32],
+    pc: u32,
+) -> SpOffset
+    requires { ⌜ bookIsGood (bookOf (now tables) (now functions) (now rows) (now rules)) ≡ true ⌝ }
+    ensures { λ r. ⌜ r ≡ offsetOf (rowFor (bookOf (now (tables .entry)) (now (functions .entry)) (now (rows .entry)) (now (rules .entry))) pc) ⌝ }
+{
+    let Place::Stands { function, row } = place_for(tables, functions, rows, rules, pc) else {
+        return SpOffset::Unknown;
+    };
+    let first = words::wide(words::word(functions, 4, function, 2));
+    last_sp(rows, first, row - first + 1)
+}
+
+// Of the row for a pc, the function alone.
+pub fn function_for(
+    tables: &[u32],
+    functions: &[u32],
+    rows: &[u32],
+    rules: &[u32],
+    pc: u32,
+) -> Around
+    requires { ⌜ bookIsGood (bookOf (now tables) (now functions) (now rows) (now rules)) ≡ true ⌝ }
+    ensures { λ r. ⌜ r ≡ aroundOf (rowFor (bookOf (now (tables .entry)) (now (functions .entry)) (now (rows .entry)) (now (rules .entry))) pc) ⌝ }
+{
+    let Place::Stands { function, .. } = place_for(tables, functions, rows, rules, pc) else {
+        return Around::Outside;
+    };
+    let first = words::wide(words::word(functions, 4, function, 2));
+    let n = words::wide(words::word(functions, 4, function, 3));
+    Around::Within {
+        start: words::word(functions, 4, function, 0),
+        end: words::word(functions, 4, function, 1),
+        saves_ra: saves_ra(rows, rules, first, n),
+    }
 }

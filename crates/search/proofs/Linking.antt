@@ -7,7 +7,15 @@ use mathlib.Core.Path.{_≡_, refl, sym, ap, _∙_}
 use native.Mathlib.Omega.{arith}
 use Rattle.words.specs.Words.{back}
 use Rattle.words.proofs.Cases.{by-bool, by-option}
-use Rattle.rows.specs.View.{View}
+use Rattle.book.specs.Book.{Book}
+use Rattle.rows.specs.Row.{rowFor, offsetOf}
+use Rattle.rows.specs.View.{View, offsetSeen, rowSeen, viewAt}
+use Rattle.rows.specs.declared.Row.{Row}
+use Rattle.rows.specs.declared.SpOffset.{SpOffset}
+use Rattle.rows.specs.declared.SpOffset.the-variants.{Is, Unknown}
+use Rattle.rows.specs.declared.Found.{Found}
+use Rattle.rows.specs.declared.Found.the-variants.{Here, Nothing}
+use Rattle.rows.proofs.Views.{view-nothing, view-here}
 use Rattle.calls.specs.Listing.{ok}
 use Rattle.calls.specs.declared.Call.{Call}
 use Rattle.calls.specs.declared.Call.the-variants.{None, Indirect, Direct}
@@ -19,23 +27,46 @@ use Rattle.search.specs.declared.LinkAt.{LinkAt}
 use Rattle.search.specs.declared.LinkAt.the-variants as link
 use Rattle.search.specs.declared.Onward.{Onward}
 use Rattle.search.specs.declared.Onward.the-variants.{To, No}
-use Rattle.search.specs.declared.Outcome.the-variants.{Found, Missing}
+use Rattle.search.specs.declared.Outcome.the-variants as outcome
 use Rattle.search.specs.declared.Searched.{Searched}
 use Rattle.search.proofs.Links.{with-link}
 use Rattle.search.proofs.Chain.{link-ra}
 
 module _ (row : ℕ → Option View) (ra pc : ℕ) (w : pc ≡ back ra 1) where
-  pub link-missing : row pc ≡ none → link.NoLink ≡ linkOf (linkAt row ra)
+  link-missing : row pc ≡ none → link.NoLink ≡ linkOf (linkAt row ra)
   unfolding linkAt
   link-missing h = rw (rw w at h, linkAt)
 
-  pub link-unknown : (r : View) → row pc ≡ some r → r .spOff ≡ none → link.NoLink ≡ linkOf (linkAt row ra)
+  link-unknown : (r : View) → row pc ≡ some r → r .spOff ≡ none → link.NoLink ≡ linkOf (linkAt row ra)
   unfolding linkAt
   link-unknown r h q = rw (rw w at h, linkAt, q)
 
-  pub link-is : (r : View) (o : ℕ) → row pc ≡ some r → r .spOff ≡ some o → link.Link o ≡ linkOf (linkAt row ra)
+  link-is : (r : View) (o : ℕ) → row pc ≡ some r → r .spOff ≡ some o → link.Link o ≡ linkOf (linkAt row ra)
   unfolding linkAt
   link-is r o h q = rw (rw w at h, linkAt, q)
+
+-- a link, by the offset of sp
+abbrev linkBy : SpOffset → LinkAt
+linkBy (Is o) = link.Link o
+linkBy Unknown = link.NoLink
+
+module _ (b : Book) (ra pc : ℕ) (w : pc ≡ back ra 1) (x : SpOffset) (e : x ≡ offsetOf (rowFor b pc)) where
+  told : (y : SpOffset) → x ≡ y → linkBy y ≡ linkOf (linkAt (viewAt b) ra)
+  told y h = ap linkBy (sym h ∙ e) ∙ go (rowFor b pc) refl
+    where
+      by-offset : (r : Row) (o : SpOffset) → viewAt b pc ≡ some (rowSeen (b .rules) r) → r .«sp_cfa_offset» ≡ o → linkBy o ≡ linkOf (linkAt (viewAt b) ra)
+      by-offset r (Is o) v q = link-is (viewAt b) ra pc w (rowSeen (b .rules) r) o v (ap offsetSeen q)
+      by-offset r Unknown v q = link-unknown (viewAt b) ra pc w (rowSeen (b .rules) r) v (ap offsetSeen q)
+
+      go : (f : Found) → f ≡ rowFor b pc → linkBy (offsetOf f) ≡ linkOf (linkAt (viewAt b) ra)
+      go (Here r) q = by-offset r (r .«sp_cfa_offset») (view-here b pc (Here r) q r refl) refl
+      go Nothing q = link-missing (viewAt b) ra pc w (view-nothing b pc Nothing q refl)
+
+  pub no-link : x ≡ Unknown → link.NoLink ≡ linkOf (linkAt (viewAt b) ra)
+  no-link h = told Unknown h
+
+  pub some-link : (o : ℕ) → x ≡ Is o → link.Link o ≡ linkOf (linkAt (viewAt b) ra)
+  some-link o h = told (Is o) h
 
 abbrev unlessKept : Bool → View → ℕ → Onward
 unlessKept true r off = No
@@ -84,8 +115,8 @@ module _ (row : ℕ → Option View) (ra : ℕ) where
         pub follow-saves : (r : View) → row t ≡ some r → r .saves ≡ true → No ≡ onwardOf (followCall row ra y)
         follow-saves r g s = ap (λ (v : Bool). unlessKept v r off) (sym s) ∙ linked (some r) g
 
-        pub follow-to : (r : View) → row t ≡ some r → r .saves ≡ false → To (r .start) (r .end) off ≡ onwardOf (followCall row ra y)
-        follow-to r g s = ap (λ (v : Bool). unlessKept v r off) (sym s) ∙ linked (some r) g
+        pub follow-to : (r : View) (start end : ℕ) → row t ≡ some r → r .start ≡ start → r .end ≡ end → r .saves ≡ false → To start end off ≡ onwardOf (followCall row ra y)
+        follow-to r start end g a b s = (λ i. To (sym a i) (sym b i) off) ∙ ap (λ (v : Bool). unlessKept v r off) (sym s) ∙ linked (some r) g
 
 pub settled-as : (row : ℕ → Option View) (x y : Listing) → x ≡ y → searchedOf (settledBy row y) ≡ searchedOf (settledBy row x)
 settled-as row x y e = ap (λ (z : Listing). searchedOf (settledBy row z)) (sym e)
@@ -94,13 +125,13 @@ module _ (row : ℕ → Option View) (x : Listing) (ra left : ℕ) (e : x ≡ St
   by-link : settledBy row x ≡ ok (one (linkAt row ra)) left
   by-link = ap (λ (y : Listing). settledBy row y) e
 
-  pub settled-none : l ≡ link.NoLink → noChain Missing left ≡ searchedOf (settledBy row x)
+  pub settled-none : l ≡ link.NoLink → noChain outcome.Missing left ≡ searchedOf (settledBy row x)
   settled-none q =
       by-option (linkAt row ra)
       (λ h. sym (ap searchedOf by-link ∙ rw h))
       (λ k h. absurd (let z : _≡_ {A = ℕ} 0 1 = cc in omega arith))
 
-  pub settled-one : (off : ℕ) → l ≡ link.Link off → (s : Searched) → s ≡ noChain Found left → withLink s ra off ≡ searchedOf (settledBy row x)
+  pub settled-one : (off : ℕ) → l ≡ link.Link off → (s : Searched) → s ≡ noChain outcome.Found left → withLink s ra off ≡ searchedOf (settledBy row x)
   unfolding linksOf
   settled-one off q s g =
       by-option (linkAt row ra)

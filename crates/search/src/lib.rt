@@ -6,6 +6,7 @@ use calls::Size;
 use calls::Spot;
 use memory::Word;
 use registers::Registers;
+use rows::Around;
 use rows::Found;
 use rows::SpOffset;
 ghost use mathlib.Core.Path.{_≡_};
@@ -93,11 +94,7 @@ fn link_at(tables: &[u32], functions: &[u32], rows: &[u32], rules: &[u32], ra: u
     ensures { λ r. ⌜ r ≡ linkOf (linkAt (viewAt (bookOf (now (tables .entry)) (now (functions .entry)) (now (rows .entry)) (now (rules .entry)))) ra) ⌝ }
 {
     let pc = std::num::wrapping_add_u32(ra, 0xffff_ffff);
-    let Found::Here(row) = rows::row_for(tables, functions, rows, rules, pc) else {
-        return LinkAt::NoLink;
-    };
-    let offset = row.sp_cfa_offset;
-    let SpOffset::Is(off) = offset else {
+    let SpOffset::Is(off) = rows::offset_for(tables, functions, rows, rules, pc) else {
         return LinkAt::NoLink;
     };
     LinkAt::Link(off)
@@ -122,17 +119,19 @@ fn follow(
     let LinkAt::Link(off) = link_at(tables, functions, rows, rules, ra) else {
         return Onward::No;
     };
-    let Found::Here(entry) = rows::row_for(tables, functions, rows, rules, callee) else {
+    let around = rows::function_for(tables, functions, rows, rules, callee);
+    let Around::Within {
+        start,
+        end,
+        saves_ra,
+    } = around
+    else {
         return Onward::No;
     };
-    if entry.function_saves_ra {
+    if saves_ra {
         return Onward::No;
     }
-    Onward::To {
-        start: entry.function_start,
-        end: entry.function_end,
-        off,
-    }
+    Onward::To { start, end, off }
 }
 
 // A function that failed: its range, and what its search takes of the allowance.

@@ -1,6 +1,7 @@
+use mathlib.Core.Path.{_∙_}
 use Rattle.book.specs.Book.{bookOf}
 use Rattle.calls.proofs.Calls.{not-direct}
-use Rattle.rows.proofs.Views.{view-nothing, view-here}
+use Rattle.rows.proofs.Views.{seen-nowhere, seen-within}
 use Rattle.search.proofs.Linking.{follow-other, follow-nolink, follow-norow, follow-saves, follow-to}
 use borrow.Author.Needs.{needs}
 use Rattle.search.proofs.follow.Statement.{statement}
@@ -27,23 +28,27 @@ enum-told c = search needs
 returns-2 : tie.Need-returns-2
 returns-2 c = follow-nolink _ _ _ _ (c .before .before .before .before .before .before .call-before .ensures) _ (c .before .before .before .before .callee .given .1) _ (c .before .before .link-at .ensures) (c .enum-told .given .1)
 
-row-for-requires : tie.Need-row-for-requires
-row-for-requires c κs = search needs
+function-for-requires : tie.Need-function-for-requires
+function-for-requires c κs = search needs
 
-enum-known-entry : tie.Need-enum-known-entry
-enum-known-entry c = search needs
+enum-known-around : tie.Need-enum-known-around
+enum-known-around c = search needs
 
 enum-told-2 : tie.Need-enum-told-2
 enum-told-2 c = search needs
 
 returns-3 : tie.Need-returns-3
-returns-3 c = follow-norow _ _ _ _ (c .before .before .before .before .before .before .before .before .before .before .call-before .ensures) _ (c .before .before .before .before .before .before .before .before .callee .given .1) _ (c .before .before .before .before .before .before .link-at .ensures) _ (c .before .before .before .before .off .given .1) (view-nothing (bookOf _ _ _ _) _ _ (c .before .before .row-for .ensures) (c .enum-told2 .given .1))
+returns-3 c = follow-norow _ _ _ _ (c .before .before .before .before .before .before .before .before .before .before .call-before .ensures) _ (c .before .before .before .before .before .before .before .before .callee .given .1) _ (c .before .before .before .before .before .before .link-at .ensures) _ (c .before .before .before .before .off .given .1) (seen-nowhere (bookOf _ _ _ _) _ _ (c .before .before .function-for .ensures) (c .enum-told2 .given .1))
 
 returns-4 : tie.Need-returns-4
-returns-4 c = follow-saves _ _ _ _ (c .before .before .before .before .before .before .before .before .before .before .before .before .call-before .ensures) _ (c .before .before .before .before .before .before .before .before .before .before .callee .given .1) _ (c .before .before .before .before .before .before .before .before .link-at .ensures) _ (c .before .before .before .before .before .before .off .given .1) _ (view-here (bookOf _ _ _ _) _ _ (c .before .before .before .before .row-for .ensures) _ (c .before .before .entry .given .1)) (c .if1 .taken)
+returns-4 c =
+    let v = seen-within (bookOf _ _ _ _) _ _ (c .before .before .before .before .function-for .ensures) _ _ _ (c .before .before .around .given .1) in
+    follow-saves _ _ _ _ (c .before .before .before .before .before .before .before .before .before .before .before .before .call-before .ensures) _ (c .before .before .before .before .before .before .before .before .before .before .callee .given .1) _ (c .before .before .before .before .before .before .before .before .link-at .ensures) _ (c .before .before .before .before .before .before .off .given .1) _ (v .was) (v .saves-is ∙ c .if1 .taken)
 
 returns-5 : tie.Need-returns-5
-returns-5 c = follow-to _ _ _ _ (c .before .before .before .before .before .before .before .before .before .before .before .before .call-before .ensures) _ (c .before .before .before .before .before .before .before .before .before .before .callee .given .1) _ (c .before .before .before .before .before .before .before .before .link-at .ensures) _ (c .before .before .before .before .before .before .off .given .1) _ (view-here (bookOf _ _ _ _) _ _ (c .before .before .before .before .row-for .ensures) _ (c .before .before .entry .given .1)) (c .if1 .left)
+returns-5 c =
+    let v = seen-within (bookOf _ _ _ _) _ _ (c .before .before .before .before .function-for .ensures) _ _ _ (c .before .before .around .given .1) in
+    follow-to _ _ _ _ (c .before .before .before .before .before .before .before .before .before .before .before .before .call-before .ensures) _ (c .before .before .before .before .before .before .before .before .before .before .callee .given .1) _ (c .before .before .before .before .before .before .before .before .link-at .ensures) _ (c .before .before .before .before .before .before .off .given .1) _ _ _ (v .was) (v .start-is) (v .end-is) (v .saves-is ∙ c .if1 .left)
 
 pub follow-spec : {M : Type 1} → statement M
 follow-spec =
@@ -56,8 +61,8 @@ follow-spec =
     enum-known-off
     enum-told
     returns-2
-    row-for-requires
-    enum-known-entry
+    function-for-requires
+    enum-known-around
     enum-told-2
     returns-3
     returns-4
