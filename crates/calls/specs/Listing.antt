@@ -62,16 +62,16 @@ straight target [] = none
 straight target (f ∷ fs) =
     elim (f .target) [ none ↦ straight target fs | some t ↦ elim (eqb t target) [ true ↦ some (f .ra) | false ↦ straight target fs ] ]
 
--- no call yet
+-- a stretch that has no call yet
 abbrev pub noSpan : ℕ → Span
 noSpan pc = record { pc = pc; from = 0; last = 0 }
 
--- a call more, which stands at a spot and leaves so much
+-- a stretch with a call more, which stands at a spot and leaves so much: it begins there if it had none
 abbrev pub longer : Span → Spot → ℕ → Span
 longer s at left =
     cond (eqb (s .from) 0) (record { pc = at .pc; from = at .left; last = left }) (record { pc = s .pc; from = s .from; last = left })
 
--- an instruction more, with its call
+-- a stretch after one instruction more, if that is a call
 abbrev pub spanThen : Span → Call → Spot → ℕ → Span
 spanThen s None at left = s
 spanThen s Indirect at left = longer s at left
@@ -90,7 +90,7 @@ module _ (callBefore : ℕ → Call) (sizeAt : ℕ → Option ℕ) where
         ]
       ]
 
-  -- from the first call of a listing to the last: of the instructions from pc up to end, and of those before, which have s
+  -- the stretch from the first call of a listing to the last, where s is that of the instructions before pc
   unfoldable pub spanFrom : Span → ℕ → ℕ → ℕ → Span
   spanFrom s zero end pc = s
   spanFrom s (suc left) end pc =

@@ -1,3 +1,4 @@
+-- `search::call_chain` and `search::through_calls` meet their contracts together. Assumes nothing.
 use borrow.Author.Needs.{needs}
 use native.Mathlib.Omega.{arith}
 use Prim.Native.Nat.{ℕ, _+_, _*_, _<_}
