@@ -222,32 +222,30 @@ fn through_calls(
     rules: &[u32],
     sections: &[u32],
     code: &[u8],
-    spot: Spot,
+    mut spot: Spot,
     target: u32,
     depth: u32,
-    allowance: u32,
+    mut allowance: u32,
 ) -> Searched
     requires { ⌜ (depth ≤ 7) × (bookIsGood (bookOf (now tables) (now functions) (now rows) (now rules)) ≡ true) × (codeIsGood (codeOf (now sections) (now code)) ≡ true) ⌝ }
     ensures { λ r. ⌜ r ≡ searchedOf (throughCalls (viewAt (bookOf (now (tables .entry)) (now (functions .entry)) (now (rows .entry)) (now (rules .entry)))) (chain (viewAt (bookOf (now (tables .entry)) (now (functions .entry)) (now (rows .entry)) (now (rules .entry)))) (callBefore (codeOf (now (sections .entry)) (now (code .entry)))) (sizeAt (codeOf (now (sections .entry)) (now (code .entry)))) depth target) (callsAmong (callBefore (codeOf (now (sections .entry)) (now (code .entry)))) (sizeAt (codeOf (now (sections .entry)) (now (code .entry)))) (spot .left) (spot .pc)) allowance) ⌝ }
 {
-    let mut at = spot;
-    let mut left = allowance;
     let mut failed = Failed::none();
-    while 0 < at.left {
-        let Size::Is(n) = calls::size_at(sections, code, at.pc) else {
-            return Searched::no_chain(Outcome::Missing, left);
+    while 0 < spot.left {
+        let Size::Is(n) = calls::size_at(sections, code, spot.pc) else {
+            return Searched::no_chain(Outcome::Missing, allowance);
         };
-        let ra = std::num::wrapping_add_u32(at.pc, n);
-        at = calls::pass_over(sections, code, ra, 0xffff_ffff, at.left - 1);
+        let ra = std::num::wrapping_add_u32(spot.pc, n);
+        spot = calls::pass_over(sections, code, ra, 0xffff_ffff, spot.left - 1);
         let onward = follow(tables, functions, rows, rules, sections, code, ra);
         let Onward::To { start, end, off } = onward else {
             continue;
         };
         if (start == failed.start) & (end == failed.end) {
-            if left < failed.cost {
+            if allowance < failed.cost {
                 return Searched::no_chain(Outcome::Spent, 0);
             }
-            left -= failed.cost;
+            allowance -= failed.cost;
             continue;
         }
         let found = call_chain(
@@ -261,17 +259,17 @@ fn through_calls(
             end,
             target,
             depth,
-            left,
+            allowance,
         );
         let outcome = found.outcome;
         let Outcome::Missing = outcome else {
             return found.with(ra, off);
         };
-        let cost = left - found.left;
+        let cost = allowance - found.left;
         failed = Failed { start, end, cost };
-        left = found.left;
+        allowance = found.left;
     }
-    Searched::no_chain(Outcome::Missing, left)
+    Searched::no_chain(Outcome::Missing, allowance)
 }
 
 // A chain of calls from a function's range to the target, through at most depth further functions. The function is listed whole first;
@@ -531,17 +529,16 @@ pub fn recover(
     cfa: u32,
     function_start: u32,
     sp_is_placeholder: bool,
-    allowance: u32,
+    mut allowance: u32,
 ) -> Recovered
     requires { ⌜ (bookIsGood (bookOf (now tables) (now functions) (now rows) (now rules)) ≡ true) × (codeIsGood (codeOf (now sections) (now code)) ≡ true) × (memoryIsGood (memoryOf (now segments) (now words)) ≡ true) ⌝ }
     ensures { λ r. ⌜ r ≡ recoveredOf (readAt (memoryOf (now (segments .entry)) (now (words .entry)))) «sp_is_placeholder» (scan (viewAt (bookOf (now (tables .entry)) (now (functions .entry)) (now (rows .entry)) (now (rules .entry)))) (callBefore (codeOf (now (sections .entry)) (now (code .entry)))) (sizeAt (codeOf (now (sections .entry)) (now (code .entry)))) (readAt (memoryOf (now (segments .entry)) (now (words .entry)))) (suc (length (now (words .entry)))) cfa «function_start» cfa allowance) ⌝ }
 {
     let mut fuel = words.len() + 1;
     let mut addr = cfa;
-    let mut left = allowance;
     while 0 < fuel {
         let Word::Is(word) = memory::read_u32(segments, words, addr) else {
-            return Recovered::no_caller(Outcome::Missing, left);
+            return Recovered::no_caller(Outcome::Missing, allowance);
         };
         let word_addr = addr;
         addr = std::num::wrapping_add_u32(addr, 4);
@@ -568,13 +565,13 @@ pub fn recover(
             word,
             word_addr,
             sp_is_placeholder,
-            left,
+            allowance,
         );
         let outcome = caller.outcome;
         let Outcome::Missing = outcome else {
             return caller;
         };
-        left = caller.left;
+        allowance = caller.left;
     }
-    Recovered::no_caller(Outcome::Missing, left)
+    Recovered::no_caller(Outcome::Missing, allowance)
 }

@@ -127,13 +127,13 @@ call-chain-returns-3 : (t : ℕ) → call-chain-lts.Need-returns-3 (call-chain-c
 call-chain-returns-3 t c = c .through-calls .ensures ∙ ap searchedOf (chain-through _ _ _ _ _ _ _ _ _ _ _ (c .before .before .if1 .left) (c .before .before .before .before .before .before .list-calls .ensures) (c .before .before .before .before .listing .given .1) .rest)
 
 abbrev through-calls-Inv-loop : through-calls-lts.InvT-loop
-through-calls-Inv-loop tables functions rows rules sections code target depth allowance at₀ left₀ failed₀ at left failed =
+through-calls-Inv-loop tables functions rows rules sections code spot₀ target depth allowance₀ failed₀ spot allowance failed =
     Ahead (viewAt (bookOf tables functions rows rules)) (callBefore (codeOf sections code)) (sizeAt (codeOf sections code)) depth target
-    (throughCalls (viewAt (bookOf tables functions rows rules)) (chain (viewAt (bookOf tables functions rows rules)) (callBefore (codeOf sections code)) (sizeAt (codeOf sections code)) depth target) (callsAmong (callBefore (codeOf sections code)) (sizeAt (codeOf sections code)) (at₀ .left) (at₀ .pc)) allowance) (at .left) (at .pc) left
+    (throughCalls (viewAt (bookOf tables functions rows rules)) (chain (viewAt (bookOf tables functions rows rules)) (callBefore (codeOf sections code)) (sizeAt (codeOf sections code)) depth target) (callsAmong (callBefore (codeOf sections code)) (sizeAt (codeOf sections code)) (spot₀ .left) (spot₀ .pc)) allowance₀) (spot .left) (spot .pc) allowance
     × Takes (λ l. chain (viewAt (bookOf tables functions rows rules)) (callBefore (codeOf sections code)) (sizeAt (codeOf sections code)) depth target (failed .start) (failed .end) l) (failed .cost) none
 
 abbrev through-calls-μ-loop : through-calls-lts.MeasureT-loop
-through-calls-μ-loop tables functions rows rules sections code target depth allowance at₀ left₀ failed₀ at left failed = at .left
+through-calls-μ-loop tables functions rows rules sections code spot₀ target depth allowance₀ failed₀ spot allowance failed = spot .left
 
 through-calls-none-requires : (t : ℕ) → through-calls-lts.Need-none-requires (through-calls-claims t) (through-calls-at t) through-calls.Post through-calls-Inv-loop through-calls-μ-loop
 through-calls-none-requires t c κs = search needs

@@ -20,13 +20,13 @@ use Rattle.search.proofs.recover.Statement.{statement}
 use Rattle.search.proofs.recover.Tie as tie
 
 abbrev Inv-loop : tie.InvT-loop
-Inv-loop tables functions rows rules sections code segments words cfa function-start sp-is-placeholder allowance fuel₀ addr₀ left₀ fuel addr left =
+Inv-loop tables functions rows rules sections code segments words cfa function-start sp-is-placeholder allowance₀ fuel₀ addr₀ allowance fuel addr =
     (addr < 2 ^ 32)
-    × (scan (viewAt (bookOf tables functions rows rules)) (callBefore (codeOf sections code)) (sizeAt (codeOf sections code)) (readAt (memoryOf segments words)) fuel cfa function-start addr left
-    ≡ scan (viewAt (bookOf tables functions rows rules)) (callBefore (codeOf sections code)) (sizeAt (codeOf sections code)) (readAt (memoryOf segments words)) (suc (length words)) cfa function-start cfa allowance)
+    × (scan (viewAt (bookOf tables functions rows rules)) (callBefore (codeOf sections code)) (sizeAt (codeOf sections code)) (readAt (memoryOf segments words)) fuel cfa function-start addr allowance
+    ≡ scan (viewAt (bookOf tables functions rows rules)) (callBefore (codeOf sections code)) (sizeAt (codeOf sections code)) (readAt (memoryOf segments words)) (suc (length words)) cfa function-start cfa allowance₀)
 
 abbrev μ-loop : tie.MeasureT-loop
-μ-loop tables functions rows rules sections code segments words cfa function-start sp-is-placeholder allowance fuel₀ addr₀ left₀ fuel addr left =
+μ-loop tables functions rows rules sections code segments words cfa function-start sp-is-placeholder allowance₀ fuel₀ addr₀ allowance fuel addr =
     fuel
 
 add-fuel : tie.Need-add-fuel Inv-loop μ-loop
