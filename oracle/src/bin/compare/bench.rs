@@ -56,6 +56,10 @@ pub fn bench(options: &Options) -> Result<(), String> {
     }
     walks("a rebuild of nine links", &[cases::nine_links()]);
     walks("a search that fails", &[cases::failing_search()]);
+    walks(
+        "a search that fails, no call twice",
+        &[cases::failing_tree()],
+    );
     if !real.is_empty() {
         texts(&format!("text of {} real sheets", real.len()), &real);
     }

@@ -104,6 +104,26 @@ pub fn failing_search() -> Lists {
     lists
 }
 
+/// The same, but no function calls another twice: each of three levels calls
+/// the three functions of the next.
+pub fn failing_tree() -> Lists {
+    let calls: Vec<Vec<u32>> = (0..14)
+        .map(|number| match number {
+            0 => vec![1],
+            1 => vec![2, 3, 4],
+            2..5 => vec![5, 6, 7],
+            5..8 => vec![8, 9, 10],
+            _ => vec![],
+        })
+        .collect();
+    let functions: Vec<Function> = (0..14).map(|number| function(number, number < 2)).collect();
+    let mut lists = halted(&[functions], &calls, 13);
+    lists.words = vec![after_call(0); 80];
+    lists.segments = vec![STACK, 80];
+
+    lists
+}
+
 /// The firmware, halted in a function that has no frame yet and was called by
 /// the one before it.
 fn halted(book: &[Vec<Function>], calls: &[Vec<u32>], number: u32) -> Lists {
