@@ -11,11 +11,10 @@ use borrow.Author.Tests.{ltb-true, ltb-false, leb-true, eqb-true, eqb-false, lt-
 use Rattle.words.specs.Words.{plus, back}
 use Rattle.words.proofs.Laws.{and-left, and-right, or-left, or-right}
 use Rattle.words.proofs.Cases.{by-bool}
-use Rattle.code.specs.Code.{Code, codeIsGood, insnAt, little, windowAt}
+use Rattle.code.specs.Code.{Code, insnAt, little, Shows}
 use Rattle.code.specs.declared.Insn.the-variants.{Is}
 use Rattle.code.specs.declared.Window.{Window}
 use Rattle.code.proofs.Laws.{little-four}
-use Rattle.code.proofs.Windows.{window-holds, window-inside, window-reads}
 use Rattle.calls.specs.declared.Call.the-variants.{None}
 use Rattle.calls.specs.declared.Spot.{Spot}
 use Rattle.calls.specs.Encoding.{isJal, isJalr, isCJal, isCJalr}
@@ -115,11 +114,11 @@ module _ (f l : ℕ) (h : mayCall f l ≡ false) where
 abbrev pub Unmoved : {A : Type 0} → Code → ℕ → (ℕ → ℕ → A) → Type 0
 Unmoved c end f = (l pc n : ℕ) → ltb pc end ≡ true → sizeAt c pc ≡ some n → callBefore c (plus pc n) ≡ None → f l (plus pc n) ≡ f (suc l) pc
 
-module _ (c : Code) (g : codeIsGood c ≡ true) (addr : ℕ) (w : Window) (e : w ≡ windowAt (c .sections) addr) where
+module _ (c : Code) (w : Window) (v : Shows c w) where
   reads : (k d : ℕ) → 0 < k → d + k ≤ w .size → insnAt k c (w .base + d) ≡ Is (little k (c .bytes) (w .place + d))
   reads k d z h =
       let q : w .base + d - w .base ≡ d = omega arith in
-      window-reads c g addr w e k (w .base + d) z (omega arith) (omega arith) ∙ rw q
+      v .reads k (w .base + d) z (omega arith) (omega arith) ∙ rw q
 
   quiet-none : (d : ℕ) → 4 ≤ d → d ≤ w .size → w .base + d < 2 ^ 32
       → mayCall (little 2 (c .bytes) (w .place + (d - 4))) (little 2 (c .bytes) (w .place + (d - 2))) ≡ false → callBefore c (w .base + d) ≡ None
@@ -145,7 +144,7 @@ module _ (c : Code) (g : codeIsGood c ≡ true) (addr : ℕ) (w : Window) (e : w
   unfolding quietSize sizeAt
   quiet-turn d n l h q z =
       let r : insnAt 2 c (w .base + d) ≡ Is (little 2 (c .bytes) (w .place + d)) = reads 2 d (omega arith) (omega arith) in
-      let i : w .base + w .size ≤ 2 ^ 32 = window-inside c g addr w e .1 in
+      let i : w .base + w .size ≤ 2 ^ 32 = v .upto in
       by-bool (eqb (little 2 (c .bytes) (w .place + d) % 4) 3)
       (λ t. by-bool (mayCall (little 2 (c .bytes) (w .place + d)) (little 2 (c .bytes) (w .place + d + 2)))
       (λ u. absurd (z (q ∙ rw (t, u))))
@@ -177,7 +176,7 @@ module _ (c : Code) (g : codeIsGood c ≡ true) (addr : ℕ) (w : Window) (e : w
           → f (passed (c .bytes) (w .place) stop left (d + n) .left) (plus (w .base) (passed (c .bytes) (w .place) stop left (d + n) .pc)) ≡ f left (plus (w .base) (d + n)))
           → f (passed (c .bytes) (w .place) stop left (d + n) .left) (plus (w .base) (passed (c .bytes) (w .place) stop left (d + n) .pc)) ≡ f (suc left) (plus (w .base) d)
       on n q z t ih =
-          let i : w .base + w .size ≤ 2 ^ 32 = window-inside c g addr w e .1 in
+          let i : w .base + w .size ≤ 2 ^ 32 = v .upto in
           let y : Quiet d n = quiet-turn d n l (omega arith) q z in
           let j : n ≤ 4 = y .some-size in
           let a : plus (w .base) d ≡ w .base + d = omega arith in
@@ -206,28 +205,31 @@ module _ (start end : ℕ) (w : Window) where
         room = leb-true _ _ (and-right (leb (w .base + 2) start && ltb start end) (leb 4 (w .size)) t);
       }
 
-module _ (c : Code) (start end left : ℕ) (w : Window) (e : w ≡ windowAt (c .sections) start) where
-  pub over-in : shows start end w ≡ true → (stop : ℕ) → stop ≡ least (end - w .base) (w .size - 4) → (s : Spot) → s ≡ passed (c .bytes) (w .place) stop left (start - w .base)
-      → (pc : ℕ) → pc ≡ plus (w .base) (s .pc) → spotAt pc (s .left) ≡ passedOver c start end left
+module _ (b : List ℕ) (w : Window) (start end left : ℕ) where
+  pub over-in : shows start end w ≡ true → (stop : ℕ) → stop ≡ least (end - w .base) (w .size - 4) → (s : Spot) → s ≡ passed b (w .place) stop left (start - w .base)
+      → (pc : ℕ) → pc ≡ plus (w .base) (s .pc) → spotAt pc (s .left) ≡ passedOver b w start end left
   unfolding passedOver
-  over-in t stop q s f pc p = rw (p, f, q, ← e, t)
+  over-in t stop q s f pc p = rw (p, f, q, t)
 
-  pub over-not : shows start end w ≡ false → spotAt start left ≡ passedOver c start end left
+  pub over-not : shows start end w ≡ false → spotAt start left ≡ passedOver b w start end left
   unfolding passedOver
-  over-not t = rw (← e, t)
+  over-not t = rw t
 
--- nothing is passed over for nothing
-pub over-broke : (c : Code) (start end left : ℕ) → left ≡ 0 → start < 2 ^ 32 → spotAt start left ≡ passedOver c start end left
-unfolding passedOver passed
-over-broke c start end left z h =
-    rw z (by-bool (shows start end w)
-    (λ t. let a : w .base + 2 ≤ start = is-in start end w t .before in
-    let y : plus (w .base) (start - w .base) ≡ start = omega arith in
-    rw (t, y))
-    (λ t. rw t))
-  where
-    w : Window
-    w = windowAt (c .sections) start
+  -- nothing is passed over for nothing
+  pub over-broke : left ≡ 0 → start < 2 ^ 32 → spotAt start left ≡ passedOver b w start end left
+  unfolding passedOver passed
+  over-broke z h =
+      rw z (by-bool (shows start end w)
+      (λ t. let a : w .base + 2 ≤ start = is-in start end w t .before in
+      let y : plus (w .base) (start - w .base) ≡ start = omega arith in
+      rw (t, y))
+      (λ t. rw t))
+
+  -- no more is left there
+  pub over-left : (s : Spot) → s ≡ passedOver b w start end left → s .left ≤ left
+  unfolding passedOver
+  over-left s e =
+      rw e (by-bool (shows start end w) (λ t. rw t (pass-within b (w .place) (least (end - w .base) (w .size - 4)) left (start - w .base))) (λ t. rw t (omega arith)))
 
 -- the lesser of two numbers is at most either
 least-upto : (a b : ℕ) → (least a b ≤ a) × (least a b ≤ b)
@@ -237,37 +239,24 @@ least-upto a b =
     (λ t. let h : b ≤ a = ltb-false a b t in rw t (omega arith, omega arith))
 
 -- what `pass` requires
-pub pass-room : (c : Code) → codeIsGood c ≡ true → (start end : ℕ) (w : Window) (e : w ≡ windowAt (c .sections) start) → shows start end w ≡ true
-    → (stop : ℕ) → stop ≡ least (end - w .base) (w .size - 4) → (2 ≤ start - w .base) × (stop + 4 ≤ 2 ^ 32) × (w .place + stop + 4 ≤ length (c .bytes))
-pass-room c g start end w e t stop q =
+pub pass-room : (b : List ℕ) (w : Window) → w .place + w .size ≤ length b → w .base + w .size ≤ 2 ^ 32 → (start end : ℕ) → shows start end w ≡ true
+    → (stop : ℕ) → stop ≡ least (end - w .base) (w .size - 4) → (2 ≤ start - w .base) × (stop + 4 ≤ 2 ^ 32) × (w .place + stop + 4 ≤ length b)
+pass-room b w j k start end t stop q =
     let i : In start end w = is-in start end w t in
     let a : w .base + 2 ≤ start = i .before in
     let r : 4 ≤ w .size = i .room in
     let u : least (end - w .base) (w .size - 4) ≤ w .size - 4 = least-upto (end - w .base) (w .size - 4) .1 in
-    let j : (w .place + w .size ≤ length (c .bytes)) × (w .base + w .size ≤ 2 ^ 32) = window-inside c g start w e in
     (omega arith, omega arith, omega arith)
 
-module _ (c : Code) (g : codeIsGood c ≡ true) (start end left : ℕ) where
+module _ (c : Code) (w : Window) (v : Shows c w) (start end left : ℕ) (z : end < 2 ^ 32) where
   abbrev there : Spot
-  there = passedOver c start end left
+  there = passedOver (c .bytes) w start end left
 
-  -- no more is left there
-  pub over-left : (s : Spot) → s ≡ there → s .left ≤ left
-  unfolding passedOver
-  over-left s e =
-      rw e (by-bool (shows start end w) (λ t. rw t (pass-within (c .bytes) (w .place) (least (end - w .base) (w .size - 4)) left (start - w .base))) (λ t. rw t (omega arith)))
-    where
-      w : Window
-      w = windowAt (c .sections) start
-
-  -- and what no such instruction changes is as at the start
+  -- what no such instruction changes is as at the start
   pub over-from : {A : Type 0} (f : ℕ → ℕ → A) → Unmoved c end f → (s : Spot) → s ≡ there → f (s .left) (s .pc) ≡ f left start
   unfolding passedOver
   over-from f m s e = rw e (by-bool (shows start end w) here (λ t. rw t))
     where
-      w : Window
-      w = windowAt (c .sections) start
-
       here : shows start end w ≡ true → f (there .left) (there .pc) ≡ f left start
       here t =
           let i : In start end w = is-in start end w t in
@@ -276,10 +265,8 @@ module _ (c : Code) (g : codeIsGood c ≡ true) (start end left : ℕ) where
           let r : 4 ≤ w .size = i .room in
           let u : (least (end - w .base) (w .size - 4) ≤ end - w .base) × (least (end - w .base) (w .size - 4) ≤ w .size - 4) = least-upto (end - w .base) (w .size - 4) in
           let x : w .base + (start - w .base) ≡ start = omega arith in
-          let v : start + 2 ≤ w .base + w .size = window-holds c g start w refl (omega arith) in
-          let o : w .base + w .size ≤ 2 ^ 32 = window-inside c g start w refl .1 in
           let y : plus (w .base) (start - w .base) ≡ start = omega arith in
-          rw t (pass-same c g start w refl f end m (least (end - w .base) (w .size - 4)) left (start - w .base) (omega arith) (omega arith) (omega arith) (omega arith) ∙ rw y)
+          rw t (pass-same c w v f end m (least (end - w .base) (w .size - 4)) left (start - w .base) (omega arith) (omega arith) (omega arith) (omega arith) ∙ rw y)
 
   -- as the calls among so many instructions
   pub over-among : (s : Spot) → s ≡ there → callsAmong (callBefore c) (sizeAt c) (s .left) (s .pc) ≡ callsAmong (callBefore c) (sizeAt c) left start

@@ -5,7 +5,7 @@ use mathlib.Core.List.{List}
 use lib.Dec.{ltb, leb, eqb}
 use Rattle.words.specs.Words.{plus}
 use Rattle.distance.specs.Field.{bits, low}
-use Rattle.code.specs.Code.{Code, little, windowAt}
+use Rattle.code.specs.Code.{little}
 use Rattle.code.specs.declared.Window.{Window}
 use Rattle.calls.specs.Encoding.{isCJal}
 use Rattle.calls.specs.declared.Spot.{Spot}
@@ -49,12 +49,8 @@ passed bytes place stop (suc left) d =
 abbrev pub least : ℕ → ℕ → ℕ
 least a b = cond (ltb a b) a b
 
--- the same in a window, where it shows all bytes that are read
-abbrev pub passedIn : List ℕ → Window → ℕ → ℕ → ℕ → Spot
-passedIn bytes w start end left =
+-- where a listing goes on, over instructions from start on that are surely no calls: as far as a window shows all bytes that are read
+unfoldable pub passedOver : List ℕ → Window → ℕ → ℕ → ℕ → Spot
+passedOver bytes w start end left =
     let s : Spot = passed bytes (w .place) (least (end - w .base) (w .size - 4)) left (start - w .base) in
     cond (leb (w .base + 2) start && ltb start end && leb 4 (w .size)) (spotAt (plus (w .base) (s .pc)) (s .left)) (spotAt start left)
-
--- where a listing goes on, over instructions from start on that are surely no calls
-unfoldable pub passedOver : Code → ℕ → ℕ → ℕ → Spot
-passedOver c start end left = passedIn (c .bytes) (windowAt (c .sections) start) start end left

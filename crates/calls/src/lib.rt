@@ -1,11 +1,12 @@
 // Calls, as `call_before` and `calls` of cfi_unwind.rs: the call that ends right before a return address, and the listing of a function's
 // calls, each instruction visited taking one of the search allowance.
 use code::Insn;
+use code::Window;
 ghost use mathlib.Core.Path.{_≡_};
 ghost use mathlib.Core.Bool.{true};
 ghost use Prim.Native.Nat.{_+_, _^_, _≤_, _<_};
 ghost use lib.ListN.{length};
-ghost use Rattle.code.specs.Code.{codeOf, codeIsGood};
+ghost use Rattle.code.specs.Code.{codeOf, codeIsGood, Shows};
 ghost use Rattle.calls.specs.Encoding.{isJal, isJalr, isAuipc, isCJal, isCJalr};
 ghost use Rattle.calls.specs.Call.{farCall, wideCall, shortCall, callBefore};
 ghost use Rattle.calls.specs.Passing.{mayBegin, mayBeShort, quietSize, least as leastOf, passed, passedOver};
@@ -90,15 +91,15 @@ fn is_c_jalr(insn: u32) -> bool
 }
 
 // Where the `jalr ra` insn at pc leads.
-fn far_call(sections: &[u32], code: &[u8], pc: u32, insn: u32) -> Call
-    requires { ⌜ codeIsGood (codeOf (now sections) (now code)) ≡ true ⌝ }
+fn far_call(sections: &[u32], code: &[u8], window: Window, pc: u32, insn: u32) -> Call
+    requires { ⌜ (codeIsGood (codeOf (now sections) (now code)) ≡ true) × Shows (codeOf (now sections) (now code)) window ⌝ }
     ensures { λ r. ⌜ r ≡ farCall (codeOf (now (sections .entry)) (now (code .entry))) pc insn ⌝ }
 {
     if insn / 0x8000 % 0x20 != 1 {
         return Call::Indirect;
     }
     let at = std::num::wrapping_add_u32(pc, 0xffff_fffc);
-    let Insn::Is(upper) = code::code4(sections, code, at) else {
+    let Insn::Is(upper) = code::code4(sections, code, window, at) else {
         return Call::Indirect;
     };
     if is_auipc(upper) {
@@ -110,28 +111,28 @@ fn far_call(sections: &[u32], code: &[u8], pc: u32, insn: u32) -> Call
 }
 
 // The 32-bit call at pc.
-fn wide_call(sections: &[u32], code: &[u8], pc: u32) -> Call
-    requires { ⌜ codeIsGood (codeOf (now sections) (now code)) ≡ true ⌝ }
+fn wide_call(sections: &[u32], code: &[u8], window: Window, pc: u32) -> Call
+    requires { ⌜ (codeIsGood (codeOf (now sections) (now code)) ≡ true) × Shows (codeOf (now sections) (now code)) window ⌝ }
     ensures { λ r. ⌜ r ≡ wideCall (codeOf (now (sections .entry)) (now (code .entry))) pc ⌝ }
 {
-    let Insn::Is(insn) = code::code4(sections, code, pc) else {
+    let Insn::Is(insn) = code::code4(sections, code, window, pc) else {
         return Call::None;
     };
     if is_jal(insn) {
         return Call::Direct(std::num::wrapping_add_u32(pc, distance::j_immediate(insn)));
     }
     if is_jalr(insn) {
-        return far_call(sections, code, pc, insn);
+        return far_call(sections, code, window, pc, insn);
     }
     Call::None
 }
 
 // The 16-bit call at pc.
-fn short_call(sections: &[u32], code: &[u8], pc: u32) -> Call
-    requires { ⌜ codeIsGood (codeOf (now sections) (now code)) ≡ true ⌝ }
+fn short_call(sections: &[u32], code: &[u8], window: Window, pc: u32) -> Call
+    requires { ⌜ (codeIsGood (codeOf (now sections) (now code)) ≡ true) × Shows (codeOf (now sections) (now code)) window ⌝ }
     ensures { λ r. ⌜ r ≡ shortCall (codeOf (now (sections .entry)) (now (code .entry))) pc ⌝ }
 {
-    let Insn::Is(insn) = code::code2(sections, code, pc) else {
+    let Insn::Is(insn) = code::code2(sections, code, window, pc) else {
         return Call::None;
     };
     if is_c_jal(insn) {
@@ -144,13 +145,14 @@ fn short_call(sections: &[u32], code: &[u8], pc: u32) -> Call
 }
 
 // The call that ends right before return_address.
-pub fn call_before(sections: &[u32], code: &[u8], return_address: u32) -> Call
-    requires { ⌜ codeIsGood (codeOf (now sections) (now code)) ≡ true ⌝ }
+pub fn call_before(sections: &[u32], code: &[u8], window: Window, return_address: u32) -> Call
+    requires { ⌜ (codeIsGood (codeOf (now sections) (now code)) ≡ true) × Shows (codeOf (now sections) (now code)) window ⌝ }
     ensures { λ r. ⌜ r ≡ callBefore (codeOf (now (sections .entry)) (now (code .entry))) «return_address» ⌝ }
 {
     let wide = wide_call(
         sections,
         code,
+        window,
         std::num::wrapping_add_u32(return_address, 0xffff_fffc),
     );
     let Call::None = wide else {
@@ -159,6 +161,7 @@ pub fn call_before(sections: &[u32], code: &[u8], return_address: u32) -> Call
     short_call(
         sections,
         code,
+        window,
         std::num::wrapping_add_u32(return_address, 0xffff_fffe),
     )
 }
@@ -171,15 +174,15 @@ pub fn call_before_word(sections: &[u32], code: &[u8], word: u32) -> Call
     if !code::has_bytes(sections, 2, std::num::wrapping_add_u32(word, 0xffff_fffe)) {
         return Call::None;
     }
-    call_before(sections, code, word)
+    call_before(sections, code, Window::empty(), word)
 }
 
 // The size of the instruction at pc, where it can be read.
-pub fn size_at(sections: &[u32], code: &[u8], pc: u32) -> Size
-    requires { ⌜ codeIsGood (codeOf (now sections) (now code)) ≡ true ⌝ }
+pub fn size_at(sections: &[u32], code: &[u8], window: Window, pc: u32) -> Size
+    requires { ⌜ (codeIsGood (codeOf (now sections) (now code)) ≡ true) × Shows (codeOf (now sections) (now code)) window ⌝ }
     ensures { λ r. ⌜ r ≡ sizeOf (sizeAt (codeOf (now (sections .entry)) (now (code .entry))) pc) ⌝ }
 {
-    let Insn::Is(insn) = code::code2(sections, code, pc) else {
+    let Insn::Is(insn) = code::code2(sections, code, window, pc) else {
         return Size::Unreadable;
     };
     if insn % 4 == 3 {
@@ -255,10 +258,10 @@ fn least(a: u32, b: u32) -> u32
     if a < b { a } else { b }
 }
 
-// Where a listing from start to end goes on, over instructions that are surely no calls: as many as one section shows.
-pub fn pass_over(sections: &[u32], code: &[u8], start: u32, end: u32, allowance: u32) -> Spot
-    requires { ⌜ codeIsGood (codeOf (now sections) (now code)) ≡ true ⌝ }
-    ensures { λ r. ⌜ r ≡ passedOver (codeOf (now (sections .entry)) (now (code .entry))) start end allowance ⌝ }
+// Where a listing from start to end goes on, over instructions that are surely no calls: as many as the window shows.
+pub fn pass_over(code: &[u8], window: Window, start: u32, end: u32, allowance: u32) -> Spot
+    requires { ⌜ (window .place + window .size ≤ length (now code)) × (window .base + window .size ≤ 2 ^ 32) ⌝ }
+    ensures { λ r. ⌜ r ≡ passedOver (now (code .entry)) window start end allowance ⌝ }
 {
     if allowance == 0 {
         return Spot {
@@ -266,7 +269,6 @@ pub fn pass_over(sections: &[u32], code: &[u8], start: u32, end: u32, allowance:
             left: allowance,
         };
     }
-    let window = code::window_at(sections, start);
     let base = window.base;
     let size = window.size;
     if (base as u64 + 2 <= start as u64) & (start < end) & (4 <= size) {
@@ -331,16 +333,17 @@ impl First {
     }
 }
 
-// Walks the instructions from start up to end whole. An instruction that cannot be read ends the function and costs nothing.
+// Walks the instructions from start up to end whole; the window, best the one at start, saves looking for their section. An instruction that cannot be read ends the function and costs nothing.
 pub fn list_calls(
     sections: &[u32],
     code: &[u8],
+    window: Window,
     start: u32,
     end: u32,
     target: u32,
     allowance: u32,
 ) -> Listing
-    requires { ⌜ codeIsGood (codeOf (now sections) (now code)) ≡ true ⌝ }
+    requires { ⌜ (codeIsGood (codeOf (now sections) (now code)) ≡ true) × Shows (codeOf (now sections) (now code)) window ⌝ }
     ensures { λ r. ⌜ r ≡ listingOf target (spanFrom (callBefore (codeOf (now (sections .entry)) (now (code .entry)))) (sizeAt (codeOf (now (sections .entry)) (now (code .entry)))) (noSpan start) allowance end start) (calls (callBefore (codeOf (now (sections .entry)) (now (code .entry)))) (sizeAt (codeOf (now (sections .entry)) (now (code .entry)))) allowance end start) ⌝ }
 {
     let mut pc = start;
@@ -352,13 +355,13 @@ pub fn list_calls(
         last: 0,
     };
     while pc < end {
-        let on = pass_over(sections, code, pc, end, left);
+        let on = pass_over(code, window, pc, end, left);
         pc = on.pc;
         left = on.left;
         if end <= pc {
             return first.listing(span, left);
         }
-        let Size::Is(n) = size_at(sections, code, pc) else {
+        let Size::Is(n) = size_at(sections, code, window, pc) else {
             return first.listing(span, left);
         };
         if left == 0 {
@@ -366,7 +369,7 @@ pub fn list_calls(
         }
         left -= 1;
         pc = std::num::wrapping_add_u32(pc, n);
-        let call = call_before(sections, code, pc);
+        let call = call_before(sections, code, window, pc);
         span = span.then(call, on, left);
         first = first.then(call, pc, target);
     }

@@ -8,9 +8,9 @@ use lib.ListN.{length}
 use lib.Dec.{leb, ltb}
 use borrow.Author.Tests.{leb-true, ltb-true, ltb-false, lt-ltb, le-ltb, le-leb}
 use Rattle.words.specs.Words.{all, firstFrom}
-use Rattle.words.proofs.Laws.{every-at, all-at, first-is}
+use Rattle.words.proofs.Laws.{every-at, all-at, and-left, and-right, first-is}
 use Rattle.words.proofs.Cases.{by-bool}
-use Rattle.code.specs.Code.{Code, codeIsGood, address, offset, size, holdsBytes, placeOf, insnAt, little, areApart, windowOn, windowAt}
+use Rattle.code.specs.Code.{Code, codeIsGood, address, offset, size, holdsBytes, placeOf, insnAt, little, areApart, windowOn, windowHas, windowAt, Shows}
 use Rattle.code.specs.declared.Place.the-variants.{At}
 use Rattle.code.specs.declared.Insn.the-variants.{Is}
 use Rattle.code.specs.declared.Window.{Window}
@@ -73,23 +73,36 @@ module _ (s : List ℕ) (addr : ℕ) (w : Window) (e : w ≡ windowAt s addr) wh
       place-at s n a k (sym (first-is (holdsBytes s n a) (length s / 3) 0 k (omega arith) (omega arith) r (λ j i. elsewhere s n a k j z g v (all-at _ k j u i)))) t
       ∙ rw (b, p))
 
-module _ (c : Code) (g : codeIsGood c ≡ true) (addr : ℕ) (w : Window) (e : w ≡ windowAt (c .sections) addr) where
-  -- a window lies within the slice and the address space
-  pub window-inside : (w .place + w .size ≤ length (c .bytes)) × (w .base + w .size ≤ 2 ^ 32)
-  unfolding codeIsGood
-  window-inside =
-      by-window (c .sections) addr w e
-      (λ q. rw q (omega arith, omega arith))
-      (λ k t o u q. rw q (leb-true _ _ (all-at _ _ k (every-at _ 4 g) t), leb-true _ _ (all-at _ _ k (every-at _ 3 g) t)))
+-- a window that was looked up shows the code
+pub window-shows : (c : Code) → codeIsGood c ≡ true → (addr : ℕ) (w : Window) → w ≡ windowAt (c .sections) addr → Shows c w
+unfolding codeIsGood insnAt
+window-shows c g addr w e =
+    by-window (c .sections) addr w e
+    (λ q. shows (rw q (omega arith)) (rw q (omega arith)))
+    (λ k t o u q. shows (rw q (leb-true _ _ (all-at _ _ k (every-at _ 4 g) t))) (rw q (leb-true _ _ (all-at _ _ k (every-at _ 3 g) t))))
+  where
+    shows : w .place + w .size ≤ length (c .bytes) → w .base + w .size ≤ 2 ^ 32 → Shows c w
+    shows i j = record { inside = i; upto = j; reads = λ n a z l h. rw (shown (c .sections) addr w e n a z l h) }
 
-  -- a window of some bytes has the two at addr
-  pub window-holds : 0 < w .size → addr + 2 ≤ w .base + w .size
-  window-holds h =
-      by-window (c .sections) addr w e
-      (λ q. absurd (let z : w .size ≡ 0 = ap (λ (x : Window). x .size) q in omega arith))
-      (λ k t o u q. rw q o)
+-- and so does one of no bytes
+pub empty-shows : (c : Code) (w : Window) → w ≡ windowOn 0 0 0 → Shows c w
+empty-shows c w e =
+    rw e (record { inside = omega arith; upto = omega arith; reads = λ n a z l h. absurd (omega arith) })
 
-  -- the word that is read of what lies in a window
-  pub window-reads : (n a : ℕ) → 0 < n → w .base ≤ a → a + n ≤ w .base + w .size → insnAt n c a ≡ Is (little n (c .bytes) (w .place + (a - w .base)))
-  unfolding insnAt
-  window-reads n a z l h = rw (shown (c .sections) addr w e n a z l h)
+-- what a window has is read there
+module _ (c : Code) (w : Window) (v : Shows c w) (n a : ℕ) (h : windowHas w n a ≡ true) where
+  within : (w .base ≤ a) × (a + n ≤ w .base + w .size)
+  within = (leb-true _ _ (and-left (leb (w .base) a) (leb (a + n) (w .base + w .size)) h), leb-true _ _ (and-right (leb (w .base) a) (leb (a + n) (w .base + w .size)) h))
+
+  pub has-before : w .base ≤ a
+  has-before = within .0
+
+  pub has-room : (from : ℕ) → from ≡ a - w .base → w .place + from + n ≤ length (c .bytes)
+  has-room from q =
+      let l : w .base ≤ a = within .0 in
+      let r : a + n ≤ w .base + w .size = within .1 in
+      let i : w .place + w .size ≤ length (c .bytes) = v .inside in
+      omega arith
+
+  pub has-reads : 0 < n → (from : ℕ) → from ≡ a - w .base → (x : ℕ) → x ≡ little n (c .bytes) (w .place + from) → Is x ≡ insnAt n c a
+  has-reads z from q x p = ap Is (p ∙ rw q) ∙ sym (v .reads n a z (within .0) (within .1))

@@ -1,5 +1,6 @@
 -- The lent code: sections as triples (address, byte offset, length) over one slice of bytes, and the words that it holds.
-use Prim.Native.Nat.{ℕ, zero, suc, _+_, _-_, _*_, _/_, _%_, _^_}
+use Prim.Native.Nat.{ℕ, zero, suc, _+_, _-_, _*_, _/_, _%_, _^_, _≤_, _<_}
+use mathlib.Core.Path.{_≡_}
 use mathlib.Core.Bool.{Bool, true, false, cond, _&&_, _||_}
 use mathlib.Core.List.{List, [], _∷_}
 use lib.ListN.{length, getD}
@@ -82,6 +83,10 @@ areApart sections k j =
 abbrev pub windowOn : ℕ → ℕ → ℕ → Window
 windowOn b p n = record { base = b; place = p; size = n }
 
+-- all of the n bytes at addr lie in a window
+abbrev pub windowHas : Window → ℕ → ℕ → Bool
+windowHas w n addr = leb (w .base) addr && leb (addr + n) (w .base + w .size)
+
 -- section k, where no earlier one has a byte of it, else no bytes
 abbrev pub windowOf : List ℕ → ℕ → Window
 windowOf sections k =
@@ -92,3 +97,9 @@ unfoldable pub windowAt : List ℕ → ℕ → Window
 windowAt sections addr =
     let k : ℕ = firstFrom (holdsBytes sections 2 addr) (length sections / 3) 0 in
     cond (ltb k (length sections / 3)) (windowOf sections k) (windowOn 0 0 0)
+
+-- a window shows the code: it lies in the slice and in the address space, and what lies in it is what the code reads there
+pub record Shows (c : Code) (w : Window) : Type 0 where
+  pub inside : w .place + w .size ≤ length (c .bytes)
+  pub upto : w .base + w .size ≤ 2 ^ 32
+  pub reads : (n a : ℕ) → 0 < n → w .base ≤ a → a + n ≤ w .base + w .size → insnAt n c a ≡ Is (little n (c .bytes) (w .place + (a - w .base)))

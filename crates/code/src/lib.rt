@@ -5,7 +5,7 @@ ghost use mathlib.Core.Bool.{true};
 ghost use Prim.Native.Nat.{_+_, _*_, _/_, _≤_, _<_, _^_};
 ghost use lib.ListN.{length, getD};
 ghost use Rattle.words.specs.Words.{all, firstFrom};
-ghost use Rattle.code.specs.Code.{codeOf, codeIsGood, holdsBytes, placeOf, isPlaced, little, insnAt, areApart, windowAt};
+ghost use Rattle.code.specs.Code.{codeOf, codeIsGood, holdsBytes, placeOf, isPlaced, little, insnAt, areApart, windowOn, windowHas, windowAt, Shows};
 
 // Where in the slice some bytes stand.
 pub enum Place {
@@ -18,6 +18,26 @@ pub struct Window {
     pub base: u32,
     pub place: usize,
     pub size: u32,
+}
+
+impl Window {
+    // One of no bytes.
+    pub fn empty() -> Window
+        ensures { λ r. ⌜ r ≡ windowOn 0 0 0 ⌝ }
+    {
+        Window {
+            base: 0,
+            place: 0,
+            size: 0,
+        }
+    }
+
+    // Whether all of the n bytes at addr lie in it.
+    fn has(self, n: u32, addr: u32) -> bool
+        ensures { λ r. ⌜ r ≡ windowHas self n addr ⌝ }
+    {
+        (self.base <= addr) & (addr as u64 + n as u64 <= self.base as u64 + self.size as u64)
+    }
 }
 
 // What a read of code answers.
@@ -111,19 +131,16 @@ pub fn window_at(sections: &[u32], addr: u32) -> Window
     ensures { λ r. ⌜ r ≡ windowAt (now (sections .entry)) addr ⌝ }
 {
     let k = first_section(sections, 2, addr);
-    if k < sections.len() / 3 {
-        if stands_alone(sections, k) {
-            return Window {
-                base: words::word(sections, 3, k, 0),
-                place: words::wide(words::word(sections, 3, k, 1)),
-                size: words::word(sections, 3, k, 2),
-            };
-        }
+    if sections.len() / 3 <= k {
+        return Window::empty();
+    }
+    if !stands_alone(sections, k) {
+        return Window::empty();
     }
     Window {
-        base: 0,
-        place: 0,
-        size: 0,
+        base: words::word(sections, 3, k, 0),
+        place: words::wide(words::word(sections, 3, k, 1)),
+        size: words::word(sections, 3, k, 2),
     }
 }
 
@@ -164,22 +181,30 @@ fn little4(code: &[u8], p: usize) -> u32
     little2(code, p) + 0x1_0000 * little2(code, p + 2)
 }
 
-// The 16 bits of code at addr.
-pub fn code2(sections: &[u32], code: &[u8], addr: u32) -> Insn
-    requires { ⌜ codeIsGood (codeOf (now sections) (now code)) ≡ true ⌝ }
+// The 16 bits of code at addr, read in the window where they lie in it: no section is looked for then.
+pub fn code2(sections: &[u32], code: &[u8], window: Window, addr: u32) -> Insn
+    requires { ⌜ (codeIsGood (codeOf (now sections) (now code)) ≡ true) × Shows (codeOf (now sections) (now code)) window ⌝ }
     ensures { λ r. ⌜ r ≡ insnAt 2 (codeOf (now (sections .entry)) (now (code .entry))) addr ⌝ }
 {
+    if window.has(2, addr) {
+        let from = words::wide(addr - window.base);
+        return Insn::Is(little2(code, window.place + from));
+    }
     let Place::At(p) = find(sections, 2, addr) else {
         return Insn::Unread;
     };
     Insn::Is(little2(code, p))
 }
 
-// The 32 bits of code at addr.
-pub fn code4(sections: &[u32], code: &[u8], addr: u32) -> Insn
-    requires { ⌜ codeIsGood (codeOf (now sections) (now code)) ≡ true ⌝ }
+// The 32 bits of code at addr, in the same way.
+pub fn code4(sections: &[u32], code: &[u8], window: Window, addr: u32) -> Insn
+    requires { ⌜ (codeIsGood (codeOf (now sections) (now code)) ≡ true) × Shows (codeOf (now sections) (now code)) window ⌝ }
     ensures { λ r. ⌜ r ≡ insnAt 4 (codeOf (now (sections .entry)) (now (code .entry))) addr ⌝ }
 {
+    if window.has(4, addr) {
+        let from = words::wide(addr - window.base);
+        return Insn::Is(little4(code, window.place + from));
+    }
     let Place::At(p) = find(sections, 4, addr) else {
         return Insn::Unread;
     };

@@ -4,6 +4,7 @@ use calls::Call;
 use calls::Listing;
 use calls::Size;
 use calls::Spot;
+use code::Window;
 use memory::Word;
 use registers::Registers;
 use rows::Around;
@@ -17,7 +18,7 @@ ghost use lib.ListN.{length};
 ghost use Rattle.book.specs.Book.{bookOf};
 ghost use Rattle.book.specs.Good.{bookIsGood};
 ghost use Rattle.rows.specs.View.{viewAt, ruleList};
-ghost use Rattle.code.specs.Code.{codeOf, codeIsGood};
+ghost use Rattle.code.specs.Code.{codeOf, codeIsGood, Shows};
 ghost use Rattle.calls.specs.Call.{callBefore};
 ghost use Rattle.calls.specs.Listing.{sizeAt, ok, andThen, callsAmong};
 ghost use Rattle.memory.specs.Memory.{memoryOf, memoryIsGood, readAt};
@@ -108,12 +109,13 @@ fn follow(
     rules: &[u32],
     sections: &[u32],
     code: &[u8],
+    window: Window,
     ra: u32,
 ) -> Onward
-    requires { ⌜ (bookIsGood (bookOf (now tables) (now functions) (now rows) (now rules)) ≡ true) × (codeIsGood (codeOf (now sections) (now code)) ≡ true) ⌝ }
+    requires { ⌜ (bookIsGood (bookOf (now tables) (now functions) (now rows) (now rules)) ≡ true) × (codeIsGood (codeOf (now sections) (now code)) ≡ true) × Shows (codeOf (now sections) (now code)) window ⌝ }
     ensures { λ r. ⌜ r ≡ onwardOf (followCall (viewAt (bookOf (now (tables .entry)) (now (functions .entry)) (now (rows .entry)) (now (rules .entry)))) ra (callBefore (codeOf (now (sections .entry)) (now (code .entry))) ra)) ⌝ }
 {
-    let Call::Direct(callee) = calls::call_before(sections, code, ra) else {
+    let Call::Direct(callee) = calls::call_before(sections, code, window, ra) else {
         return Onward::No;
     };
     let LinkAt::Link(off) = link_at(tables, functions, rows, rules, ra) else {
@@ -222,22 +224,23 @@ fn through_calls(
     rules: &[u32],
     sections: &[u32],
     code: &[u8],
+    window: Window,
     mut spot: Spot,
     target: u32,
     depth: u32,
     mut allowance: u32,
 ) -> Searched
-    requires { ⌜ (depth ≤ 7) × (bookIsGood (bookOf (now tables) (now functions) (now rows) (now rules)) ≡ true) × (codeIsGood (codeOf (now sections) (now code)) ≡ true) ⌝ }
+    requires { ⌜ (depth ≤ 7) × (bookIsGood (bookOf (now tables) (now functions) (now rows) (now rules)) ≡ true) × (codeIsGood (codeOf (now sections) (now code)) ≡ true) × Shows (codeOf (now sections) (now code)) window ⌝ }
     ensures { λ r. ⌜ r ≡ searchedOf (throughCalls (viewAt (bookOf (now (tables .entry)) (now (functions .entry)) (now (rows .entry)) (now (rules .entry)))) (chain (viewAt (bookOf (now (tables .entry)) (now (functions .entry)) (now (rows .entry)) (now (rules .entry)))) (callBefore (codeOf (now (sections .entry)) (now (code .entry)))) (sizeAt (codeOf (now (sections .entry)) (now (code .entry)))) depth target) (callsAmong (callBefore (codeOf (now (sections .entry)) (now (code .entry)))) (sizeAt (codeOf (now (sections .entry)) (now (code .entry)))) (spot .left) (spot .pc)) allowance) ⌝ }
 {
     let mut failed = Failed::none();
     while 0 < spot.left {
-        let Size::Is(n) = calls::size_at(sections, code, spot.pc) else {
+        let Size::Is(n) = calls::size_at(sections, code, window, spot.pc) else {
             return Searched::no_chain(Outcome::Missing, allowance);
         };
         let ra = std::num::wrapping_add_u32(spot.pc, n);
-        spot = calls::pass_over(sections, code, ra, 0xffff_ffff, spot.left - 1);
-        let onward = follow(tables, functions, rows, rules, sections, code, ra);
+        spot = calls::pass_over(code, window, ra, 0xffff_ffff, spot.left - 1);
+        let onward = follow(tables, functions, rows, rules, sections, code, window, ra);
         let Onward::To { start, end, off } = onward else {
             continue;
         };
@@ -290,7 +293,8 @@ pub fn call_chain(
     requires { ⌜ (depth ≤ 8) × (bookIsGood (bookOf (now tables) (now functions) (now rows) (now rules)) ≡ true) × (codeIsGood (codeOf (now sections) (now code)) ≡ true) ⌝ }
     ensures { λ r. ⌜ r ≡ searchedOf (chain (viewAt (bookOf (now (tables .entry)) (now (functions .entry)) (now (rows .entry)) (now (rules .entry)))) (callBefore (codeOf (now (sections .entry)) (now (code .entry)))) (sizeAt (codeOf (now (sections .entry)) (now (code .entry)))) depth target start end allowance) ⌝ }
 {
-    let listing = calls::list_calls(sections, code, start, end, target, allowance);
+    let window = code::window_at(sections, start);
+    let listing = calls::list_calls(sections, code, window, start, end, target, allowance);
     let Listing::Other { left, calls: span } = listing else {
         return settled(tables, functions, rows, rules, listing);
     };
@@ -308,6 +312,7 @@ pub fn call_chain(
         rules,
         sections,
         code,
+        window,
         spot,
         target,
         depth - 1,
