@@ -14,12 +14,14 @@ use Rattle.book.specs.Book.{Book, firstRow, rowCount, functionCount}
 use Rattle.book.specs.Fit.{RowsFit}
 use Rattle.book.specs.Good.{bookIsGood}
 use Rattle.book.proofs.GoodLaws.{Good, good}
-use Rattle.rows.specs.Row.{rowHas, rowAt, placeIn, placeBy, placeInTable, lastHaving, started, placeFrom, placeFor, rowOf, rowFor, orElse}
+use Rattle.rows.specs.Row.{rowHas, rowAt, placeIn, placeBy, placeInTable, lastHaving, started, placeFrom, placeFor, rowOf, rowFor, rulesOf, orElse}
 use Rattle.rows.specs.declared.Row.{Row}
 use Rattle.rows.specs.declared.Place.{Place}
 use Rattle.rows.specs.declared.Place.the-variants.{Stands, Nowhere}
 use Rattle.rows.specs.declared.Found.{Found}
-use Rattle.rows.specs.declared.Found.the-variants.{Here}
+use Rattle.rows.specs.declared.Found.the-variants.{Here, Nothing}
+use Rattle.rows.specs.declared.Rules.{Rules}
+use Rattle.rows.specs.declared.Rules.the-variants.{Listed}
 use Rattle.rows.specs.declared.Covering.{Covering}
 use Rattle.rows.specs.declared.Covering.the-variants.{Function, Uncovered}
 use Rattle.rows.proofs.Search.{started-upto, having-within}
@@ -94,3 +96,13 @@ row-fits b pc v x h e q = go (placeFor b pc) refl (sym e ∙ q)
         let k : rowAt (b .functions) (b .rows) (b .rules) f r ≡ x = cc in
         subst (λ (y : Row). Fits (b .rules) y) k (at-fits b f r (stands-well b pc h (placeFor b pc) f r refl w))
     go Nowhere w e = absurd (let z : _≡_ {A = ℕ} 0 1 = cc in omega arith)
+
+pub rules-fit : (b : Book) (pc : ℕ) (v : Rules) (first count : ℕ) → bookIsGood b ≡ true → v ≡ rulesOf (rowFor b pc) → v ≡ Listed first count → first + count ≤ length (b .rules) / 3
+rules-fit b pc v first count h e q = go (rowFor b pc) refl (sym e ∙ q)
+  where
+    go : (y : Found) → y ≡ rowFor b pc → rulesOf y ≡ Listed first count → first + count ≤ length (b .rules) / 3
+    go (Here x) w g =
+        let f : x .«first_rule» ≡ first = cc in
+        let n : x .«rule_count» ≡ count = cc in
+        rw (f, n) at (row-fits b pc (Here x) x h w refl)
+    go Nothing w g = absurd (let z : _≡_ {A = ℕ} 0 1 = cc in omega arith)

@@ -8,14 +8,15 @@ use native.Mathlib.Numerals.{sub-one}
 use native.Mathlib.Omega.{arith}
 use borrow.Author.Tests.{lt-ltb, le-ltb}
 use Rattle.words.specs.Words.{firstFrom}
-use Rattle.book.specs.Book.{Book, cfaOffset, functionStart, functionEnd, firstRow, rowCount}
+use Rattle.book.specs.Book.{Book, cfaOffset, functionStart, functionEnd, firstRow, rowCount, firstRule, ruleCount}
 use Rattle.rows.specs.declared.Found.the-variants.{Here, Nothing}
 use Rattle.rows.specs.declared.Row.{Row}
 use Rattle.rows.specs.declared.Place.{Place}
 use Rattle.rows.specs.declared.Place.the-variants.{Stands, Nowhere}
 use Rattle.rows.specs.declared.Around.the-variants.{Within, Outside}
+use Rattle.rows.specs.declared.Rules.the-variants.{Listed, NoRow}
 use Rattle.rows.specs.declared.SpOffset.{SpOffset}
-use Rattle.rows.specs.Row.{savesRa, spBased, lastSp, rowHas, rowAt, placeIn, placeFor, rowOf, rowFor, offsetOf, aroundOf}
+use Rattle.rows.specs.Row.{savesRa, spBased, lastSp, rowHas, rowAt, placeIn, placeFor, rowOf, rowFor, offsetOf, aroundOf, rulesOf}
 use Rattle.rows.specs.declared.SpOffset.the-variants.{Is, Unknown}
 
 pub sp-turn : (rows : List ℕ) (first n : ℕ) → 0 < n
@@ -55,6 +56,9 @@ module _ (b : Book) (pc : ℕ) (p : Place) (e : p ≡ placeFor b pc) where
     pub outside-for : Outside ≡ aroundOf (rowFor b pc)
     outside-for = ap aroundOf nothing-for
 
+    pub norow-for : NoRow ≡ rulesOf (rowFor b pc)
+    norow-for = ap rulesOf nothing-for
+
   module _ (f r : ℕ) (h : p ≡ Stands f r) where
     pub here-for : (x : Row) → x ≡ rowAt (b .functions) (b .rows) (b .rules) f r → Here x ≡ rowFor b pc
     here-for x g = ap Here g ∙ sym (found-by (Stands f r) h)
@@ -67,3 +71,7 @@ module _ (b : Book) (pc : ℕ) (p : Place) (e : p ≡ placeFor b pc) where
         → first ≡ firstRow (b .functions) f → n ≡ rowCount (b .functions) f → saves ≡ savesRa (b .rows) (b .rules) first n → Within start end saves ≡ aroundOf (rowFor b pc)
     unfolding rowAt
     within-for start end first n saves s t g k v = rw (v, s, t, g, k) (sym (ap aroundOf (found-by (Stands f r) h)))
+
+    pub listed-for : (first count : ℕ) → first ≡ firstRule (b .rows) r → count ≡ ruleCount (b .rows) r → Listed first count ≡ rulesOf (rowFor b pc)
+    unfolding rowAt
+    listed-for first count g k = rw (g, k) (sym (ap rulesOf (found-by (Stands f r) h)))

@@ -16,6 +16,8 @@ use Rattle.rows.specs.declared.Place.{Place}
 use Rattle.rows.specs.declared.Place.the-variants.{Stands, Nowhere}
 use Rattle.rows.specs.declared.Around.{Around}
 use Rattle.rows.specs.declared.Around.the-variants.{Within, Outside}
+use Rattle.rows.specs.declared.Rules.{Rules}
+use Rattle.rows.specs.declared.Rules.the-variants.{Listed, NoRow}
 use Rattle.rows.specs.declared.Found.{Found}
 use Rattle.rows.specs.declared.Found.the-variants.{Here, Nothing}
 
@@ -124,3 +126,8 @@ offsetOf Nothing = Unknown
 abbrev pub aroundOf : Found → Around
 aroundOf (Here r) = Within (r .«function_start») (r .«function_end») (r .«function_saves_ra»)
 aroundOf Nothing = Outside
+
+-- where a row's rules stand
+abbrev pub rulesOf : Found → Rules
+rulesOf (Here r) = Listed (r .«first_rule») (r .«rule_count»)
+rulesOf Nothing = NoRow

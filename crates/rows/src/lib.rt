@@ -8,7 +8,7 @@ ghost use Rattle.words.specs.Words.{within, field, firstFrom, rising};
 ghost use Rattle.book.specs.Book.{bookOf, rowCount, firstRow};
 ghost use Rattle.book.specs.Fit.{RowsFit, FunctionsFit};
 ghost use Rattle.book.specs.Good.{bookIsGood};
-ghost use Rattle.rows.specs.Row.{rowHas, anyRa, listsRa, savesRa, spBased, lastSp, rowAt, placeIn, started, lastHaving, placeInTable, placeFor, rowFor, offsetOf, aroundOf};
+ghost use Rattle.rows.specs.Row.{rowHas, anyRa, listsRa, savesRa, spBased, lastSp, rowAt, placeIn, started, lastHaving, placeInTable, placeFor, rowFor, offsetOf, aroundOf, rulesOf};
 
 // The offset of the last sp-based frame address of the function up to a row.
 pub enum SpOffset {
@@ -49,6 +49,12 @@ pub enum Around {
         saves_ra: bool,
     },
     Outside,
+}
+
+// Where the rules of a row stand: the first, and how many.
+pub enum Rules {
+    Listed { first: usize, count: usize },
+    NoRow,
 }
 
 // The function of a table that contains a pc.
@@ -307,5 +313,19 @@ pub fn function_for(
         start: words::word(functions, 4, function, 0),
         end: words::word(functions, 4, function, 1),
         saves_ra: saves_ra(rows, rules, first, n),
+    }
+}
+
+// Of the row for a pc, where its rules stand alone.
+pub fn rules_for(tables: &[u32], functions: &[u32], rows: &[u32], rules: &[u32], pc: u32) -> Rules
+    requires { ⌜ bookIsGood (bookOf (now tables) (now functions) (now rows) (now rules)) ≡ true ⌝ }
+    ensures { λ r. ⌜ r ≡ rulesOf (rowFor (bookOf (now (tables .entry)) (now (functions .entry)) (now (rows .entry)) (now (rules .entry))) pc) ⌝ }
+{
+    let Place::Stands { row, .. } = place_for(tables, functions, rows, rules, pc) else {
+        return Rules::NoRow;
+    };
+    Rules::Listed {
+        first: words::wide(words::word(rows, 7, row, 5)),
+        count: words::wide(words::word(rows, 7, row, 6)),
     }
 }
