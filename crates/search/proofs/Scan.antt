@@ -178,13 +178,16 @@ module _ (row : ℕ → Option View) (read : ℕ → Option ℕ) (place : Bool) 
       pub meet-norow : row pc ≡ none → noCaller Missing (f .left) ≡ recoveredOf read place (tried (foundIn f))
       meet-norow e = by-above none (meets-norow row cfa word at (f .links) (f .count) (whole .some-link h) (at-pc none e))
 
-      module _ (r : View) (e : row pc ≡ some r) (x : RuleAt) (q : x ≡ ruleOf (ruleFor 1 (r .rules))) where
+      module _ (r : View) (e : row pc ≡ some r) (rs : List Rule) (a : r .rules ≡ rs) (x : RuleAt) (q : x ≡ ruleOf (ruleFor 1 rs)) where
+        seen-rule : x ≡ ruleOf (ruleFor 1 (r .rules))
+        seen-rule = q ∙ ap (λ (us : List Rule). ruleOf (ruleFor 1 us)) (sym a)
+
         pub meet-norule : x ≡ rule.NoRule → noCaller Missing (f .left) ≡ recoveredOf read place (tried (foundIn f))
-        meet-norule u = by-above none (meets-norule row cfa word at (f .links) (f .count) r (whole .some-link h) (at-pc (some r) e) (rule-missing _ x q u))
+        meet-norule u = by-above none (meets-norule row cfa word at (f .links) (f .count) r (whole .some-link h) (at-pc (some r) e) (rule-missing _ x seen-rule u))
 
         module _ (k p : ℕ) (u : x ≡ rule.Rule k p) where
           the-rule : Ruled (ruleFor 1 (r .rules)) k p
-          the-rule = ruled (ruleFor 1 (r .rules)) x k p q u
+          the-rule = ruled (ruleFor 1 (r .rules)) x k p seen-rule u
 
           pub meet-kind : ¬ (k ≡ 2) → noCaller Missing (f .left) ≡ recoveredOf read place (tried (foundIn f))
           meet-kind t =
@@ -200,13 +203,13 @@ module _ (row : ℕ → Option View) (read : ℕ → Option ℕ) (place : Bool) 
                 let v : Ruled (ruleFor 1 (r .rules)) k p = the-rule in
                 by-above none (meets-off row cfa word at (f .links) r (v .rule) (v .was) (f .count) (whole .some-link h) (at-pc (some r) e) (v .kind-is ∙ t) (λ y. n (sym (saved-at v) ∙ y)))
 
-            pub meet-at : (b : Registers) → plus top p ≡ at → b ≡ refill read top (r .rules) (setOf (placed place (newOf word)) 2 top)
+            pub meet-at : (b : Registers) → plus top p ≡ at → b ≡ refill read top rs (setOf (placed place (newOf word)) 2 top)
                 → record { outcome = f .outcome; registers = b; links = f .links; count = f .count; left = f .left } ≡ recoveredOf read place (tried (foundIn f))
             meet-at b y g =
                 let v : Ruled (ruleFor 1 (r .rules)) k p = the-rule in
-                let a : f ≡ searchedOf (ok (some (linksIn (f .links) (f .count))) (f .left)) = whole .answer ∙ ap (λ (o : Outcome). searchedOf (foundBy o (linksIn (f .links) (f .count)) (f .left))) h in
-                let c : b ≡ refill read ((inner cfa (linksIn (f .links) (f .count))) .1) (r .rules) (setOf (placed place (newOf word)) 2 ((inner cfa (linksIn (f .links) (f .count))) .1)) = rw s at g in
-                (λ m. record { outcome = h m; registers = c m; links = a m .links; count = a m .count; left = f .left })
+                let d : f ≡ searchedOf (ok (some (linksIn (f .links) (f .count))) (f .left)) = whole .answer ∙ ap (λ (o : Outcome). searchedOf (foundBy o (linksIn (f .links) (f .count)) (f .left))) h in
+                let c : b ≡ refill read ((inner cfa (linksIn (f .links) (f .count))) .1) (r .rules) (setOf (placed place (newOf word)) 2 ((inner cfa (linksIn (f .links) (f .count))) .1)) = rw (s, sym a) at g in
+                (λ m. record { outcome = h m; registers = c m; links = d m .links; count = d m .count; left = f .left })
                 ∙ by-above _ (meets-at row cfa word at (f .links) r (v .rule) (v .was) (f .count) (whole .some-link h) (at-pc (some r) e) (v .kind-is ∙ t) (saved-at v ∙ y))
 
 -- nothing is lost of the chain on the way
@@ -230,10 +233,10 @@ module _ (row : ℕ → Option View) (cb : ℕ → Call) (sz : ℕ → Option �
     unfolding tryWord
     try-norow h = let g : cb word ≡ Direct t = sym e ∙ d in rw (g, tryWord, h)
 
-    pub try-row : (r : View) → row t ≡ some r
-        → andThen (chain row cb sz 8 start (r .start) (r .end) left) (λ c l. ok (meetsIf row cfa word at c) l) ≡ tryWord row cb sz cfa start word at left
+    pub try-row : (r : View) (first end : ℕ) → row t ≡ some r → r .start ≡ first → r .end ≡ end
+        → andThen (chain row cb sz 8 start first end left) (λ c l. ok (meetsIf row cfa word at c) l) ≡ tryWord row cb sz cfa start word at left
     unfolding tryWord
-    try-row r h = let g : cb word ≡ Direct t = sym e ∙ d in sym (rw (g, tryWord, h))
+    try-row r first end h a b = let g : cb word ≡ Direct t = sym e ∙ d in rw (← a, ← b) (sym (rw (g, tryWord, h)))
 
 -- the scan, a word at a time
 pub scan-none : (read : ℕ → Option ℕ) (place : Bool) (o p : Out (Option Fit)) (l : ℕ) → o ≡ ok none l → o ≡ p → noCaller Missing l ≡ recoveredOf read place p

@@ -8,7 +8,7 @@ use code::Window;
 use memory::Word;
 use registers::Registers;
 use rows::Around;
-use rows::Found;
+use rows::Rules;
 use rows::SpOffset;
 ghost use mathlib.Core.Path.{_≡_};
 ghost use mathlib.Core.Bool.{true};
@@ -431,19 +431,19 @@ fn meet(
         return Recovered::no_caller(outcome, left);
     };
     let links = found.links;
-    let count = found.count;
-    let last = words::wide(2 * (count - 1));
+    let n = found.count;
+    let last = words::wide(2 * (n - 1));
     let pc = std::num::wrapping_add_u32(links[last], 0xffff_ffff);
-    let Found::Here(row) = rows::row_for(tables, functions, rows, rules, pc) else {
+    let Rules::Listed { first, count } = rows::rules_for(tables, functions, rows, rules, pc) else {
         return Recovered::no_caller(Outcome::Missing, left);
     };
-    let RuleAt::Rule { kind, operand } = rule_for(rules, row.first_rule, row.rule_count) else {
+    let RuleAt::Rule { kind, operand } = rule_for(rules, first, count) else {
         return Recovered::no_caller(Outcome::Missing, left);
     };
     if kind != 2 {
         return Recovered::no_caller(Outcome::Missing, left);
     }
-    let top = sp_after(links, count, cfa);
+    let top = sp_after(links, n, cfa);
     let saved = std::num::wrapping_add_u32(top, operand);
     if saved != at {
         return Recovered::no_caller(Outcome::Missing, left);
@@ -452,8 +452,8 @@ fn meet(
         rules,
         segments,
         words,
-        row.first_rule,
-        row.rule_count,
+        first,
+        count,
         word,
         top,
         sp_is_placeholder,
@@ -462,7 +462,7 @@ fn meet(
         outcome,
         registers,
         links,
-        count,
+        count: n,
         left,
     }
 }
@@ -551,32 +551,32 @@ pub fn recover(
         let Call::Direct(caller_start) = calls::call_before_word(sections, code, word) else {
             continue;
         };
-        let Found::Here(entry) = rows::row_for(tables, functions, rows, rules, caller_start) else {
-            continue;
-        };
-        let caller = try_caller(
-            tables,
-            functions,
-            rows,
-            rules,
-            sections,
-            code,
-            segments,
-            words,
-            entry.function_start,
-            entry.function_end,
-            cfa,
-            function_start,
-            word,
-            word_addr,
-            sp_is_placeholder,
-            allowance,
-        );
-        let outcome = caller.outcome;
-        let Outcome::Missing = outcome else {
-            return caller;
-        };
-        allowance = caller.left;
+        let around = rows::function_for(tables, functions, rows, rules, caller_start);
+        if let Around::Within { start, end, .. } = around {
+            let caller = try_caller(
+                tables,
+                functions,
+                rows,
+                rules,
+                sections,
+                code,
+                segments,
+                words,
+                start,
+                end,
+                cfa,
+                function_start,
+                word,
+                word_addr,
+                sp_is_placeholder,
+                allowance,
+            );
+            let outcome = caller.outcome;
+            let Outcome::Missing = outcome else {
+                return caller;
+            };
+            allowance = caller.left;
+        }
     }
     Recovered::no_caller(Outcome::Missing, allowance)
 }

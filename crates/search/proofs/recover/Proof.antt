@@ -10,7 +10,7 @@ use Rattle.calls.specs.Listing.{sizeAt}
 use Rattle.calls.proofs.Calls.{not-direct}
 use Rattle.memory.specs.Memory.{memoryOf, readAt}
 use Rattle.search.specs.Recover.{scan}
-use Rattle.rows.proofs.Views.{view-nothing, view-here}
+use Rattle.rows.proofs.Views.{seen-nowhere, seen-within}
 use Rattle.memory.proofs.Laws.{read-unknown, read-is}
 use Rattle.search.proofs.Tags.{not-missing}
 use Rattle.search.proofs.Scan.{try-other, try-norow, try-row, scan-none, scan-end, scan-unread, scan-skip, scan-miss, scan-done}
@@ -68,35 +68,39 @@ loop-less c = search needs
 loop-again : tie.Need-loop-again Inv-loop μ-loop
 loop-again c = (c .before .before .wrapping-add-u32 .ok, scan-skip _ _ _ _ _ _ _ _ _ (c .before .before .before .before .before .before .before .loop-test .taken) _ (read-is (memoryOf _ _) _ (c .before .before .before .before .before .before .before .before .loop .inv .0) _ (c .before .before .before .before .before .before .read-u32 .ensures) _ (c .before .before .before .before .word .given .1)) _ _ (c .before .before .wrapping-add-u32 .ensures) (try-other _ _ _ _ _ _ _ _ _ (c .before .call-before-word .ensures) (not-direct _ (c .match2 .keys2))) ∙ c .before .before .before .before .before .before .before .before .loop .inv .1)
 
-row-for-requires : tie.Need-row-for-requires Inv-loop μ-loop
-row-for-requires c κs = search needs
+function-for-requires : tie.Need-function-for-requires Inv-loop μ-loop
+function-for-requires c κs = search needs
 
-enum-known-entry : tie.Need-enum-known-entry Inv-loop μ-loop
-enum-known-entry c = search needs
-
-enum-told-2 : tie.Need-enum-told-2 Inv-loop μ-loop
-enum-told-2 c = search needs
-
-loop-less-2 : tie.Need-loop-less-2 Inv-loop μ-loop
-loop-less-2 c = search needs
-
-loop-again-2 : tie.Need-loop-again-2 Inv-loop μ-loop
-loop-again-2 c = (c .before .before .before .before .before .before .before .wrapping-add-u32 .ok, scan-skip _ _ _ _ _ _ _ _ _ (c .before .before .before .before .before .before .before .before .before .before .before .before .loop-test .taken) _ (read-is (memoryOf _ _) _ (c .before .before .before .before .before .before .before .before .before .before .before .before .before .loop .inv .0) _ (c .before .before .before .before .before .before .before .before .before .before .before .read-u32 .ensures) _ (c .before .before .before .before .before .before .before .before .before .word .given .1)) _ _ (c .before .before .before .before .before .before .before .wrapping-add-u32 .ensures) (try-norow _ _ _ _ _ _ _ _ _ (c .before .before .before .before .before .before .call-before-word .ensures) _ (c .before .before .before .before .caller-start .given .1) (view-nothing (bookOf _ _ _ _) _ _ (c .before .before .row-for .ensures) (c .enum-told2 .given .1))) ∙ c .before .before .before .before .before .before .before .before .before .before .before .before .before .loop .inv .1)
+enum-known-around : tie.Need-enum-known-around Inv-loop μ-loop
+enum-known-around c = search needs
 
 try-caller-requires : tie.Need-try-caller-requires Inv-loop μ-loop
 try-caller-requires c κs = c .before .before .before .before .before .before .before .before .before .before .before .before .before .before .before .before .before .before .before .before .before .before .before .pre
 
+enum-told-2 : tie.Need-enum-told-2 Inv-loop μ-loop
+enum-told-2 c = search needs
+
+returns-2 : tie.Need-returns-2 Inv-loop μ-loop
+returns-2 c =
+    let v = seen-within (bookOf _ _ _ _) _ _ (c .before .before .before .before .before .function-for .ensures) _ _ _ (c .before .before .before .around .given .1) in
+    scan-done _ _ _ _ _ _ _ _ _ (c .before .before .before .before .before .before .before .before .before .before .before .before .before .before .before .loop-test .taken) _ (read-is (memoryOf _ _) _ (c .before .before .before .before .before .before .before .before .before .before .before .before .before .before .before .before .loop .inv .0) _ (c .before .before .before .before .before .before .before .before .before .before .before .before .before .before .read-u32 .ensures) _ (c .before .before .before .before .before .before .before .before .before .before .before .before .word .given .1)) _ _ _ (c .before .try-caller .ensures) (try-row _ _ _ _ _ _ _ _ _ (c .before .before .before .before .before .before .before .before .before .call-before-word .ensures) _ (c .before .before .before .before .before .before .before .caller-start .given .1) _ _ _ (v .was) (v .start-is) (v .end-is)) _ (not-missing _ (c .match4 .keys2)) (c .before .before .before .before .before .before .before .before .before .before .before .before .before .before .before .before .loop .inv .1)
+
+loop-less-2 : tie.Need-loop-less-2 Inv-loop μ-loop
+loop-less-2 c = omega (arith, c .before .before .before .before .before .before .before .before .before .before .before .before .before .before .before .before .loop-test .taken)
+
+loop-again-2 : tie.Need-loop-again-2 Inv-loop μ-loop
+loop-again-2 c =
+    let v = seen-within (bookOf _ _ _ _) _ _ (c .before .before .before .before .before .before .function-for .ensures) _ _ _ (c .before .before .before .before .around .given .1) in
+    (c .before .before .before .before .before .before .before .before .before .before .before .wrapping-add-u32 .ok, scan-miss _ _ _ _ _ _ _ _ _ (c .before .before .before .before .before .before .before .before .before .before .before .before .before .before .before .before .loop-test .taken) _ (read-is (memoryOf _ _) _ (c .before .before .before .before .before .before .before .before .before .before .before .before .before .before .before .before .before .loop .inv .0) _ (c .before .before .before .before .before .before .before .before .before .before .before .before .before .before .before .read-u32 .ensures) _ (c .before .before .before .before .before .before .before .before .before .before .before .before .before .word .given .1)) _ _ _ (c .before .before .try-caller .ensures) (try-row _ _ _ _ _ _ _ _ _ (c .before .before .before .before .before .before .before .before .before .before .call-before-word .ensures) _ (c .before .before .before .before .before .before .before .before .caller-start .given .1) _ _ _ (v .was) (v .start-is) (v .end-is)) _ (c .before .before .before .before .before .before .before .before .before .before .before .wrapping-add-u32 .ensures) (c .enum-told2 .given .1) ∙ c .before .before .before .before .before .before .before .before .before .before .before .before .before .before .before .before .before .loop .inv .1)
+
 enum-told-3 : tie.Need-enum-told-3 Inv-loop μ-loop
 enum-told-3 c = search needs
 
-returns-2 : tie.Need-returns-2 Inv-loop μ-loop
-returns-2 c = scan-done _ _ _ _ _ _ _ _ _ (c .before .before .before .before .before .before .before .before .before .before .before .before .before .before .before .loop-test .taken) _ (read-is (memoryOf _ _) _ (c .before .before .before .before .before .before .before .before .before .before .before .before .before .before .before .before .loop .inv .0) _ (c .before .before .before .before .before .before .before .before .before .before .before .before .before .before .read-u32 .ensures) _ (c .before .before .before .before .before .before .before .before .before .before .before .before .word .given .1)) _ _ _ (c .before .try-caller .ensures) (try-row _ _ _ _ _ _ _ _ _ (c .before .before .before .before .before .before .before .before .before .call-before-word .ensures) _ (c .before .before .before .before .before .before .before .caller-start .given .1) _ (view-here (bookOf _ _ _ _) _ _ (c .before .before .before .before .before .row-for .ensures) _ (c .before .before .before .entry .given .1))) _ (not-missing _ (c .match4 .keys2)) (c .before .before .before .before .before .before .before .before .before .before .before .before .before .before .before .before .loop .inv .1)
-
 loop-less-3 : tie.Need-loop-less-3 Inv-loop μ-loop
-loop-less-3 c = omega (arith, c .before .before .before .before .before .before .before .before .before .before .before .before .before .before .before .before .loop-test .taken)
+loop-less-3 c = search needs
 
 loop-again-3 : tie.Need-loop-again-3 Inv-loop μ-loop
-loop-again-3 c = (c .before .before .before .before .before .before .before .before .before .before .before .wrapping-add-u32 .ok, scan-miss _ _ _ _ _ _ _ _ _ (c .before .before .before .before .before .before .before .before .before .before .before .before .before .before .before .before .loop-test .taken) _ (read-is (memoryOf _ _) _ (c .before .before .before .before .before .before .before .before .before .before .before .before .before .before .before .before .before .loop .inv .0) _ (c .before .before .before .before .before .before .before .before .before .before .before .before .before .before .before .read-u32 .ensures) _ (c .before .before .before .before .before .before .before .before .before .before .before .before .before .word .given .1)) _ _ _ (c .before .before .try-caller .ensures) (try-row _ _ _ _ _ _ _ _ _ (c .before .before .before .before .before .before .before .before .before .before .call-before-word .ensures) _ (c .before .before .before .before .before .before .before .before .caller-start .given .1) _ (view-here (bookOf _ _ _ _) _ _ (c .before .before .before .before .before .before .row-for .ensures) _ (c .before .before .before .before .entry .given .1))) _ (c .before .before .before .before .before .before .before .before .before .before .before .wrapping-add-u32 .ensures) (c .enum-told3 .given .1) ∙ c .before .before .before .before .before .before .before .before .before .before .before .before .before .before .before .before .before .loop .inv .1)
+loop-again-3 c = (c .before .before .before .before .before .before .before .wrapping-add-u32 .ok, scan-skip _ _ _ _ _ _ _ _ _ (c .before .before .before .before .before .before .before .before .before .before .before .before .loop-test .taken) _ (read-is (memoryOf _ _) _ (c .before .before .before .before .before .before .before .before .before .before .before .before .before .loop .inv .0) _ (c .before .before .before .before .before .before .before .before .before .before .before .read-u32 .ensures) _ (c .before .before .before .before .before .before .before .before .before .word .given .1)) _ _ (c .before .before .before .before .before .before .before .wrapping-add-u32 .ensures) (try-norow _ _ _ _ _ _ _ _ _ (c .before .before .before .before .before .before .call-before-word .ensures) _ (c .before .before .before .before .caller-start .given .1) (seen-nowhere (bookOf _ _ _ _) _ _ (c .before .before .function-for .ensures) (c .enum-told3 .given .1))) ∙ c .before .before .before .before .before .before .before .before .before .before .before .before .before .loop .inv .1)
 
 no-caller-requires-2 : tie.Need-no-caller-requires-2 Inv-loop μ-loop
 no-caller-requires-2 c κs = search needs
@@ -123,14 +127,14 @@ recover-spec =
     enum-known-caller-start
     loop-less
     loop-again
-    row-for-requires
-    enum-known-entry
+    function-for-requires
+    enum-known-around
+    try-caller-requires
     enum-told-2
+    returns-2
     loop-less-2
     loop-again-2
-    try-caller-requires
     enum-told-3
-    returns-2
     loop-less-3
     loop-again-3
     no-caller-requires-2
