@@ -166,17 +166,6 @@ pub fn call_before(sections: &[u32], code: &[u8], window: Window, return_address
     )
 }
 
-// The same for a word of a stack. Most have no code before them: that is seen first.
-pub fn call_before_word(sections: &[u32], code: &[u8], word: u32) -> Call
-    requires { ⌜ codeIsGood (codeOf (now sections) (now code)) ≡ true ⌝ }
-    ensures { λ r. ⌜ r ≡ callBefore (codeOf (now (sections .entry)) (now (code .entry))) word ⌝ }
-{
-    if !code::has_bytes(sections, 2, std::num::wrapping_add_u32(word, 0xffff_fffe)) {
-        return Call::None;
-    }
-    call_before(sections, code, Window::empty(), word)
-}
-
 // The size of the instruction at pc, where it can be read.
 pub fn size_at(sections: &[u32], code: &[u8], window: Window, pc: u32) -> Size
     requires { ⌜ (codeIsGood (codeOf (now sections) (now code)) ≡ true) × Shows (codeOf (now sections) (now code)) window ⌝ }

@@ -84,11 +84,6 @@ window-shows c g addr w e =
     shows : w .place + w .size ≤ length (c .bytes) → w .base + w .size ≤ 2 ^ 32 → Shows c w
     shows i j = record { inside = i; upto = j; reads = λ n a z l h. rw (shown (c .sections) addr w e n a z l h) }
 
--- and so does one of no bytes
-pub empty-shows : (c : Code) (w : Window) → w ≡ windowOn 0 0 0 → Shows c w
-empty-shows c w e =
-    rw e (record { inside = omega arith; upto = omega arith; reads = λ n a z l h. absurd (omega arith) })
-
 -- what a window has is read there
 module _ (c : Code) (w : Window) (v : Shows c w) (n a : ℕ) (h : windowHas w n a ≡ true) where
   within : (w .base ≤ a) × (a + n ≤ w .base + w .size)

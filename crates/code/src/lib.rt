@@ -21,17 +21,6 @@ pub struct Window {
 }
 
 impl Window {
-    // One of no bytes.
-    pub fn empty() -> Window
-        ensures { λ r. ⌜ r ≡ windowOn 0 0 0 ⌝ }
-    {
-        Window {
-            base: 0,
-            place: 0,
-            size: 0,
-        }
-    }
-
     // Whether all of the n bytes at addr lie in it.
     fn has(self, n: u32, addr: u32) -> bool
         ensures { λ r. ⌜ r ≡ windowHas self n addr ⌝ }
@@ -126,16 +115,27 @@ fn stands_alone(sections: &[u32], k: usize) -> bool
     true
 }
 
+// A window of no bytes.
+fn nothing_shown() -> Window
+    ensures { λ r. ⌜ r ≡ windowOn 0 0 0 ⌝ }
+{
+    Window {
+        base: 0,
+        place: 0,
+        size: 0,
+    }
+}
+
 // The section of the 2 bytes at addr, where no earlier one has a byte of it: all its bytes are read from there.
 pub fn window_at(sections: &[u32], addr: u32) -> Window
     ensures { λ r. ⌜ r ≡ windowAt (now (sections .entry)) addr ⌝ }
 {
     let k = first_section(sections, 2, addr);
     if sections.len() / 3 <= k {
-        return Window::empty();
+        return nothing_shown();
     }
     if !stands_alone(sections, k) {
-        return Window::empty();
+        return nothing_shown();
     }
     Window {
         base: words::word(sections, 3, k, 0),

@@ -1,6 +1,6 @@
 -- What `rule_for`, `refill`, `sp_after`, `meet` and `recover` come to on each way through the code. Assumes nothing.
 use Prim.Native.Nat.{ℕ, zero, suc, _+_, _-_, _*_, _<_, _≤_}
-use mathlib.Core.Bool.{Bool}
+use mathlib.Core.Bool.{Bool, true, false}
 use mathlib.Core.Path.{_≡_, refl, sym, ap, ap₂, _∙_}
 use mathlib.Core.List.{List, [], _∷_}
 use mathlib.Core.Option.{Option, none, some, Option·none-ne-some, Option·some-injective}
@@ -13,14 +13,18 @@ use Rattle.words.specs.Words.{plus, back}
 use Rattle.words.proofs.Cases.{by-bool, by-option}
 use Rattle.book.specs.Book.{ruleRegister, ruleKind, ruleOperand}
 use Rattle.rows.specs.View.{Rule, View, ruleAt, ruleList}
+use Rattle.code.specs.Code.{codeOf, codeIsGood, placeOf, isPlaced}
 use Rattle.calls.specs.declared.Call.{Call}
 use Rattle.calls.specs.declared.Call.the-variants.{None, Indirect, Direct}
+use Rattle.calls.specs.Call.{callBefore}
 use Rattle.calls.specs.Listing.{Out, spent, ok, andThen}
+use Rattle.calls.proofs.Calls.{none-before}
 use Rattle.registers.specs.Registers.{newOf, setOf, placed}
 use Rattle.registers.specs.declared.Registers.{Registers}
 use Rattle.search.specs.Search.{Link, chain}
 use Rattle.search.specs.Recover.{Fit, inner, ruleFor, meets, meetsIf, tryWord, scan, refill}
-use Rattle.search.specs.Answers.{linksIn, searchedOf, foundIn, foundBy, noCaller, recoveredOf, ruleMade, ruleOf, Whole}
+use Rattle.search.specs.declared.NextWord.the-variants.{Here, NoMore}
+use Rattle.search.specs.Answers.{hasCode, nextWord, linksIn, searchedOf, foundIn, foundBy, noCaller, recoveredOf, ruleMade, ruleOf, Whole}
 use Rattle.search.specs.declared.RuleAt.{RuleAt}
 use Rattle.search.specs.declared.RuleAt.the-variants as rule
 use Rattle.search.specs.declared.Outcome.{Outcome}
@@ -238,6 +242,38 @@ module _ (row : ℕ → Option View) (cb : ℕ → Call) (sz : ℕ → Option �
     unfolding tryWord
     try-row r first end h a b = let g : cb word ≡ Direct t = sym e ∙ d in rw (← a, ← b) (sym (rw (g, tryWord, h)))
 
+-- what `has_bytes` answers says whether there is code before a word
+pub has-told : (s : List ℕ) (word at : ℕ) (b t : Bool) → at ≡ back word 2 → b ≡ isPlaced (placeOf s 2 at) → b ≡ t → hasCode s word ≡ t
+has-told s word at b t w e h = rw (← w) (sym e ∙ h)
+
+-- no call ends where there is no code
+pub none-there : (s b : List ℕ) → codeIsGood (codeOf s b) ≡ true → (word : ℕ) → hasCode s word ≡ false → callBefore (codeOf s b) word ≡ None
+none-there s b g word h = sym (none-before (codeOf s b) word (back word 2) _ g refl refl h)
+
+-- the next word with code before it, a word at a time
+module _ (read : ℕ → Option ℕ) (has : ℕ → Bool) (left at : ℕ) where
+  pub next-end : left ≤ 0 → NoMore ≡ nextWord read has left at
+  unfolding nextWord
+  next-end h = let z : left ≡ 0 = omega arith in rw z
+
+  module _ (h : 0 < left) where
+    -- one word of those that are left
+    one-more : left ≡ suc (left - 1)
+    one-more = omega arith
+
+    pub next-unread : read at ≡ none → NoMore ≡ nextWord read has left at
+    unfolding nextWord
+    next-unread e = sym (rw (one-more, nextWord, e))
+
+    module _ (word : ℕ) (e : read at ≡ some word) where
+      pub next-here : has word ≡ true → Here word at left ≡ nextWord read has left at
+      unfolding nextWord
+      next-here t = sym (ap (λ (n : ℕ). nextWord read has n at) one-more ∙ rw (e, nextWord, t) (ap (λ (n : ℕ). Here word at n) (sym one-more)))
+
+      pub next-skip : has word ≡ false → (up : ℕ) → up ≡ plus at 4 → nextWord read has (left - 1) up ≡ nextWord read has left at
+      unfolding nextWord
+      next-skip t up w = rw w (sym (ap (λ (n : ℕ). nextWord read has n at) one-more ∙ rw (e, nextWord, t)))
+
 -- the scan, a word at a time
 pub scan-none : (read : ℕ → Option ℕ) (place : Bool) (o p : Out (Option Fit)) (l : ℕ) → o ≡ ok none l → o ≡ p → noCaller Missing l ≡ recoveredOf read place p
 scan-none read place o p l e i = ap (recoveredOf read place) (sym e ∙ i)
@@ -246,15 +282,50 @@ module _ (row : ℕ → Option View) (cb : ℕ → Call) (sz : ℕ → Option �
   abbrev from : ℕ → ℕ → ℕ → Out (Option Fit)
   from fuel at left = scan row cb sz read fuel cfa start at left
 
-  pub scan-end : (fuel at left : ℕ) → fuel ≤ 0 → from fuel at left ≡ ok none left
-  unfolding scan
-  scan-end zero at left h = refl
-  scan-end (suc n) at left h = absurd (omega arith)
+  -- words that return from no call are passed over
+  module _ (has : ℕ → Bool) (q : (w : ℕ) → has w ≡ false → cb w ≡ None) where
+    over : (word at left : ℕ) → has word ≡ false → tryWord row cb sz cfa start word at left ≡ ok none left
+    unfolding tryWord
+    over word at left t = rw (q word t, tryWord)
 
-  pub scan-unread : (fuel at left : ℕ) → 0 < fuel → read at ≡ none → from fuel at left ≡ ok none left
-  unfolding scan
-  scan-unread zero at left h e = absurd (omega arith)
-  scan-unread (suc n) at left h e = rw (e, scan)
+    pub next-none : (fuel at left : ℕ) → NoMore ≡ nextWord read has fuel at → from fuel at left ≡ ok none left
+    unfolding nextWord scan andThen
+    next-none zero at left e = refl
+    next-none (suc n) at left e =
+        by-option (read at)
+        (λ h. rw (h, scan))
+        (λ w h. by-bool (has w)
+        (λ t. absurd (let g : NoMore ≡ Here w at (suc n) = e ∙ rw (h, nextWord, t) in let z : _≡_ {A = ℕ} 0 1 = cc in omega arith))
+        (λ t. rw (h, scan, over w at left t) (next-none n (plus at 4) left (e ∙ rw (h, nextWord, t)))))
+
+    -- a word that was found: memory has it, and the scan from there on is the same
+    pub record Next (fuel at word up more : ℕ) : Type 0 where
+      pub some-left : 0 < more
+      pub upto : more ≤ fuel
+      pub was : read up ≡ some word
+      pub same : (left : ℕ) → from more up left ≡ from fuel at left
+
+    pub next-is : (fuel at word up more : ℕ) → Here word up more ≡ nextWord read has fuel at → Next fuel at word up more
+    unfolding nextWord scan andThen
+    next-is zero at word up more e = absurd (let z : _≡_ {A = ℕ} 0 1 = cc in omega arith)
+    next-is (suc n) at word up more e =
+        by-option (read at)
+        (λ h. absurd (let g : Here word up more ≡ NoMore = e ∙ rw (h, nextWord) in let z : _≡_ {A = ℕ} 0 1 = cc in omega arith))
+        (λ w h. by-bool (has w)
+        (λ t. found w h (e ∙ rw (h, nextWord, t)))
+        (λ t. later w h t (next-is n (plus at 4) word up more (e ∙ rw (h, nextWord, t)))))
+      where
+        found : (w : ℕ) → read at ≡ some w → Here word up more ≡ Here w at (suc n) → Next (suc n) at word up more
+        found w h g =
+            let a : word ≡ w = cc in
+            let b : up ≡ at = cc in
+            let c : more ≡ suc n = cc in
+            rw (a, b, c) (record { some-left = omega arith; upto = omega arith; was = h; same = λ l. refl })
+
+        later : (w : ℕ) → read at ≡ some w → has w ≡ false → Next n (plus at 4) word up more → Next (suc n) at word up more
+        later w h t x =
+            let i : more ≤ n = x .upto in
+            record { some-left = x .some-left; upto = omega arith; was = x .was; same = λ l. x .same l ∙ sym (rw (h, scan, over w at l t)) }
 
   -- from a word at `at` on, by what it comes to, with so much fuel
   abbrev after : ℕ → ℕ → Out (Option Fit) → Out (Option Fit)

@@ -1,11 +1,13 @@
 -- What the functions answer, whole: links lie in 18 words, the innermost first, and what is not said is 0.
 use Prim.Native.Nat.{ℕ, zero, suc, _+_, _*_, _≤_, _<_}
-use mathlib.Core.Bool.{Bool}
+use mathlib.Core.Bool.{Bool, true, false}
 use mathlib.Core.List.{List, [], _∷_}
 use mathlib.Core.Option.{Option, none, some}
 use mathlib.Core.Path.{_≡_}
 use lib.ListN.{length, getD, set, replicate}
+use Rattle.words.specs.Words.{plus, back}
 use Rattle.rows.specs.View.{Rule, View}
+use Rattle.code.specs.Code.{placeOf, isPlaced}
 use Rattle.calls.specs.declared.Call.{Call}
 use Rattle.calls.specs.declared.Call.the-variants.{None, Indirect, Direct}
 use Rattle.calls.specs.declared.Listing.{Listing}
@@ -23,6 +25,8 @@ use Rattle.search.specs.declared.RuleAt.the-variants as rule
 use Rattle.search.specs.declared.LinkAt.{LinkAt}
 use Rattle.search.specs.declared.LinkAt.the-variants as link
 use Rattle.search.specs.declared.Failed.{Failed}
+use Rattle.search.specs.declared.NextWord.{NextWord}
+use Rattle.search.specs.declared.NextWord.the-variants.{Here, NoMore}
 use Rattle.search.specs.declared.Onward.{Onward}
 use Rattle.search.specs.declared.Onward.the-variants.{To, No}
 
@@ -116,3 +120,13 @@ pub record Whole (s : Searched) : Type 0 where
   pub some-link : s .outcome ≡ Found → 0 < s .count
   pub upto : s .count ≤ 9
   pub answer : s ≡ searchedOf (foundIn s)
+
+-- there is code right before a word, so that it may return from a call
+abbrev pub hasCode : List ℕ → ℕ → Bool
+hasCode sections word = isPlaced (placeOf sections 2 (back word 2))
+
+-- the next of the words from `at` on, at most `left` of them while memory has them, that has code before it
+unfoldable pub nextWord : (ℕ → Option ℕ) → (ℕ → Bool) → ℕ → ℕ → NextWord
+nextWord read has zero at = NoMore
+nextWord read has (suc left) at =
+    elim (read at) [ none ↦ NoMore | some word ↦ elim (has word) [ true ↦ Here word at (suc left) | false ↦ nextWord read has left (plus at 4) ] ]

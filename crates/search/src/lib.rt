@@ -25,7 +25,7 @@ ghost use Rattle.memory.specs.Memory.{memoryOf, memoryIsGood, readAt};
 ghost use Rattle.registers.specs.Registers.{newOf, setOf, placed};
 ghost use Rattle.search.specs.Search.{linkAt, throughCalls, chain};
 ghost use Rattle.search.specs.Recover.{ruleFor, inner, refill as refilled, meetsIf, scan};
-ghost use Rattle.search.specs.Answers.{ruleMade, ruleOf, linkOf, followCall, onwardOf, settledBy, noneFailed, noChain, withLink, searchedOf, linksIn, foundIn, Whole, noCaller, recoveredOf};
+ghost use Rattle.search.specs.Answers.{ruleMade, ruleOf, linkOf, followCall, onwardOf, settledBy, noneFailed, noChain, withLink, searchedOf, linksIn, foundIn, Whole, noCaller, recoveredOf, hasCode, nextWord};
 
 // How a search ended.
 pub enum Outcome {
@@ -520,6 +520,33 @@ fn try_caller(
     )
 }
 
+// A word of the stack that has code before it: the word, where it stands, and how many are left from it on.
+enum NextWord {
+    Here { word: u32, at: u32, left: usize },
+    NoMore,
+}
+
+// The next of so many words from `from` on that has code before it. Any other returns from no call, and most are others: the loop over
+// those stands by itself, since among the calls of a scan its values would be kept in memory.
+fn next_word(sections: &[u32], segments: &[u32], words: &[u32], from: u32, most: usize) -> NextWord
+    requires { ⌜ memoryIsGood (memoryOf (now segments) (now words)) ≡ true ⌝ }
+    ensures { λ r. ⌜ r ≡ nextWord (readAt (memoryOf (now (segments .entry)) (now (words .entry)))) (hasCode (now (sections .entry))) most from ⌝ }
+{
+    let mut at = from;
+    let mut left = most;
+    while 0 < left {
+        let Word::Is(word) = memory::read_u32(segments, words, at) else {
+            return NextWord::NoMore;
+        };
+        if code::has_bytes(sections, 2, std::num::wrapping_add_u32(word, 0xffff_fffe)) {
+            return NextWord::Here { word, at, left };
+        }
+        at = std::num::wrapping_add_u32(at, 4);
+        left -= 1;
+    }
+    NextWord::NoMore
+}
+
 // The callers of the function that starts at function_start, whose frame ends at cfa, after it lost its return address: the stack is
 // scanned upward for a word that returns from a call of a function with rows, for which `try_caller` has an answer.
 pub fn recover(
@@ -541,42 +568,43 @@ pub fn recover(
 {
     let mut fuel = words.len() + 1;
     let mut addr = cfa;
-    while 0 < fuel {
-        let Word::Is(word) = memory::read_u32(segments, words, addr) else {
+    loop {
+        let next = next_word(sections, segments, words, addr, fuel);
+        let NextWord::Here { word, at, left } = next else {
             return Recovered::no_caller(Outcome::Missing, allowance);
         };
-        let word_addr = addr;
-        addr = std::num::wrapping_add_u32(addr, 4);
-        fuel -= 1;
-        let Call::Direct(caller_start) = calls::call_before_word(sections, code, word) else {
+        addr = std::num::wrapping_add_u32(at, 4);
+        fuel = left - 1;
+        let window = code::window_at(sections, std::num::wrapping_add_u32(word, 0xffff_fffe));
+        let Call::Direct(caller_start) = calls::call_before(sections, code, window, word) else {
             continue;
         };
         let around = rows::function_for(tables, functions, rows, rules, caller_start);
-        if let Around::Within { start, end, .. } = around {
-            let caller = try_caller(
-                tables,
-                functions,
-                rows,
-                rules,
-                sections,
-                code,
-                segments,
-                words,
-                start,
-                end,
-                cfa,
-                function_start,
-                word,
-                word_addr,
-                sp_is_placeholder,
-                allowance,
-            );
-            let outcome = caller.outcome;
-            let Outcome::Missing = outcome else {
-                return caller;
-            };
-            allowance = caller.left;
-        }
+        let Around::Within { start, end, .. } = around else {
+            continue;
+        };
+        let caller = try_caller(
+            tables,
+            functions,
+            rows,
+            rules,
+            sections,
+            code,
+            segments,
+            words,
+            start,
+            end,
+            cfa,
+            function_start,
+            word,
+            at,
+            sp_is_placeholder,
+            allowance,
+        );
+        let outcome = caller.outcome;
+        let Outcome::Missing = outcome else {
+            return caller;
+        };
+        allowance = caller.left;
     }
-    Recovered::no_caller(Outcome::Missing, allowance)
 }
