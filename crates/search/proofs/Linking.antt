@@ -96,27 +96,34 @@ module _ (row : ℕ → Option View) (ra : ℕ) where
         go Indirect m = refl
         go (Direct t) m = absurd (m t refl)
 
-    module _ (t : ℕ) (h : x ≡ Direct t) (l : LinkAt) (p : l ≡ linkOf (linkAt row ra)) where
-      direct : (o : Option View) → row t ≡ o → onwardBy l o ≡ onwardOf (followCall row ra y)
-      direct o q =
+    module _ (t : ℕ) (h : x ≡ Direct t) where
+      direct : (l : LinkAt) → l ≡ linkOf (linkAt row ra) → (o : Option View) → row t ≡ o → onwardBy l o ≡ onwardOf (followCall row ra y)
+      direct l p o q =
           ap (λ (v : LinkAt). onwardBy v o) p ∙ ap (λ (v : Option View). onwardBy (linkOf (linkAt row ra)) v) (sym q)
           ∙ sym (onward-by t) ∙ ap (λ (v : Call). onwardOf (followCall row ra v)) (sym h ∙ e)
 
-      pub follow-nolink : l ≡ link.NoLink → No ≡ onwardOf (followCall row ra y)
-      follow-nolink q = ap (λ (v : LinkAt). onwardBy v (row t)) (sym q) ∙ direct (row t) refl
+      pub follow-norow : row t ≡ none → No ≡ onwardOf (followCall row ra y)
+      follow-norow g = sym (go (linkOf (linkAt row ra))) ∙ direct _ refl none g
+        where
+          go : (l : LinkAt) → onwardBy l none ≡ No
+          go link.NoLink = refl
+          go (link.Link off) = refl
 
-      module _ (off : ℕ) (q : l ≡ link.Link off) where
-        linked : (o : Option View) → row t ≡ o → onwardBy (link.Link off) o ≡ onwardOf (followCall row ra y)
-        linked o g = ap (λ (v : LinkAt). onwardBy v o) (sym q) ∙ direct o g
+      module _ (r : View) (g : row t ≡ some r) where
+        pub follow-saves : r .saves ≡ true → No ≡ onwardOf (followCall row ra y)
+        follow-saves s = sym (go (linkOf (linkAt row ra))) ∙ direct _ refl (some r) g
+          where
+            go : (l : LinkAt) → onwardBy l (some r) ≡ No
+            go link.NoLink = refl
+            go (link.Link off) = ap (λ (v : Bool). unlessKept v r off) s
 
-        pub follow-norow : row t ≡ none → No ≡ onwardOf (followCall row ra y)
-        follow-norow g = linked none g
+        module _ (l : LinkAt) (p : l ≡ linkOf (linkAt row ra)) where
+          pub follow-nolink : l ≡ link.NoLink → No ≡ onwardOf (followCall row ra y)
+          follow-nolink q = ap (λ (v : LinkAt). onwardBy v (some r)) (sym q) ∙ direct l p (some r) g
 
-        pub follow-saves : (r : View) → row t ≡ some r → r .saves ≡ true → No ≡ onwardOf (followCall row ra y)
-        follow-saves r g s = ap (λ (v : Bool). unlessKept v r off) (sym s) ∙ linked (some r) g
-
-        pub follow-to : (r : View) (start end : ℕ) → row t ≡ some r → r .start ≡ start → r .end ≡ end → r .saves ≡ false → To start end off ≡ onwardOf (followCall row ra y)
-        follow-to r start end g a b s = (λ i. To (sym a i) (sym b i) off) ∙ ap (λ (v : Bool). unlessKept v r off) (sym s) ∙ linked (some r) g
+          pub follow-to : (off : ℕ) → l ≡ link.Link off → (start end : ℕ) → r .start ≡ start → r .end ≡ end → r .saves ≡ false → To start end off ≡ onwardOf (followCall row ra y)
+          follow-to off q start end a b s =
+              (λ i. To (sym a i) (sym b i) off) ∙ ap (λ (v : Bool). unlessKept v r off) (sym s) ∙ ap (λ (v : LinkAt). onwardBy v (some r)) (sym q) ∙ direct l p (some r) g
 
 pub settled-as : (row : ℕ → Option View) (x y : Listing) → x ≡ y → searchedOf (settledBy row y) ≡ searchedOf (settledBy row x)
 settled-as row x y e = ap (λ (z : Listing). searchedOf (settledBy row z)) (sym e)

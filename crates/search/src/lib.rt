@@ -101,7 +101,7 @@ fn link_at(tables: &[u32], functions: &[u32], rows: &[u32], rules: &[u32], ra: u
     LinkAt::Link(off)
 }
 
-// Where the call before ra may be followed: into functions that never save ra.
+// Where the call before ra may be followed: into functions that never save ra. Most save it, so that is asked first.
 fn follow(
     tables: &[u32],
     functions: &[u32],
@@ -118,9 +118,6 @@ fn follow(
     let Call::Direct(callee) = calls::call_before(sections, code, window, ra) else {
         return Onward::No;
     };
-    let LinkAt::Link(off) = link_at(tables, functions, rows, rules, ra) else {
-        return Onward::No;
-    };
     let around = rows::function_for(tables, functions, rows, rules, callee);
     let Around::Within {
         start,
@@ -133,6 +130,9 @@ fn follow(
     if saves_ra {
         return Onward::No;
     }
+    let LinkAt::Link(off) = link_at(tables, functions, rows, rules, ra) else {
+        return Onward::No;
+    };
     Onward::To { start, end, off }
 }
 

@@ -2,8 +2,9 @@
 
 use crate::{
     book::{self, Book, Function, Row, Rule},
-    code,
+    code, gen_walk,
     lists::Lists,
+    random::Random,
 };
 
 const BASE: u32 = 0x4200_0000;
@@ -122,6 +123,19 @@ pub fn failing_tree() -> Lists {
     lists.segments = vec![STACK, 80];
 
     lists
+}
+
+/// Walks of little firmwares drawn at random, as those compared: the first of
+/// each family, where it is not refused.
+pub fn drawn(families: u64) -> Vec<Lists> {
+    (0..families)
+        .filter_map(|case| {
+            gen_walk::family(&mut Random::new(1, case), 20_000)
+                .into_iter()
+                .next()
+        })
+        .filter(|lists| lists.refusal().is_none())
+        .collect()
 }
 
 /// The firmware, halted in a function that has no frame yet and was called by
