@@ -322,7 +322,8 @@ impl First {
     }
 }
 
-// Walks the instructions from start up to end whole; the window, best the one at start, saves looking for their section. An instruction that cannot be read ends the function and costs nothing.
+// Walks the instructions from start up to end whole, in a window that best is the one at start. An instruction that cannot be read ends
+// the function and costs nothing.
 pub fn list_calls(
     sections: &[u32],
     code: &[u8],

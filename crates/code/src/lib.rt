@@ -1,5 +1,6 @@
 // The lent code: sections as triples (address, byte offset, length) over one slice of bytes, as `Unwinder::code` of cfi_unwind.rs.
-// Whether they are good (refusal 5), and the 2 or 4 bytes at an address: of the first section where all fit.
+// Whether they are good (refusal 5), and the 2 or 4 bytes at an address: of the first section where all fit. Who reads many that lie
+// together looks for their section once, and reads them in its window.
 ghost use mathlib.Core.Path.{_≡_};
 ghost use mathlib.Core.Bool.{true};
 ghost use Prim.Native.Nat.{_+_, _*_, _/_, _≤_, _<_, _^_};
@@ -21,6 +22,17 @@ pub struct Window {
 }
 
 impl Window {
+    // One of no bytes.
+    fn empty() -> Window
+        ensures { λ r. ⌜ r ≡ windowOn 0 0 0 ⌝ }
+    {
+        Window {
+            base: 0,
+            place: 0,
+            size: 0,
+        }
+    }
+
     // Whether all of the n bytes at addr lie in it.
     fn has(self, n: u32, addr: u32) -> bool
         ensures { λ r. ⌜ r ≡ windowHas self n addr ⌝ }
@@ -115,27 +127,16 @@ fn stands_alone(sections: &[u32], k: usize) -> bool
     true
 }
 
-// A window of no bytes.
-fn nothing_shown() -> Window
-    ensures { λ r. ⌜ r ≡ windowOn 0 0 0 ⌝ }
-{
-    Window {
-        base: 0,
-        place: 0,
-        size: 0,
-    }
-}
-
 // The section of the 2 bytes at addr, where no earlier one has a byte of it: all its bytes are read from there.
 pub fn window_at(sections: &[u32], addr: u32) -> Window
     ensures { λ r. ⌜ r ≡ windowAt (now (sections .entry)) addr ⌝ }
 {
     let k = first_section(sections, 2, addr);
     if sections.len() / 3 <= k {
-        return nothing_shown();
+        return Window::empty();
     }
     if !stands_alone(sections, k) {
-        return nothing_shown();
+        return Window::empty();
     }
     Window {
         base: words::word(sections, 3, k, 0),

@@ -10,20 +10,20 @@ use Rattle.code.proofs.window_at.Tie as tie
 first-section-requires : tie.Need-first-section-requires
 first-section-requires c κs = search needs
 
-nothing-shown-requires : tie.Need-nothing-shown-requires
-nothing-shown-requires c κs = search needs
+empty-requires : tie.Need-empty-requires
+empty-requires c κs = search needs
 
 returns : tie.Need-returns
-returns c = c .nothing-shown .ensures ∙ window-nowhere _ _ _ (c .before .before .first-section .ensures) (c .before .if1 .taken)
+returns c = c .empty .ensures ∙ window-nowhere _ _ _ (c .before .before .first-section .ensures) (c .before .if1 .taken)
 
 stands-alone-requires : tie.Need-stands-alone-requires
 stands-alone-requires c κs = search needs
 
-nothing-shown-requires-2 : tie.Need-nothing-shown-requires-2
-nothing-shown-requires-2 c κs = search needs
+empty-requires-2 : tie.Need-empty-requires-2
+empty-requires-2 c κs = search needs
 
 returns-2 : tie.Need-returns-2
-returns-2 c = c .nothing-shown2 .ensures ∙ window-shared _ _ _ (c .before .before .before .before .first-section .ensures) (omega (arith, c .before .before .before .if1 .left)) (sym (c .before .before .stands-alone .ensures) ∙ not-true _ (c .before .if2 .taken))
+returns-2 c = c .empty2 .ensures ∙ window-shared _ _ _ (c .before .before .before .before .first-section .ensures) (omega (arith, c .before .before .before .if1 .left)) (sym (c .before .before .stands-alone .ensures) ∙ not-true _ (c .before .if2 .taken))
 
 word-requires : tie.Need-word-requires
 word-requires c κs = search needs
@@ -45,10 +45,10 @@ window-at-spec =
     tie.close
     (tie.spec
     first-section-requires
-    nothing-shown-requires
+    empty-requires
     returns
     stands-alone-requires
-    nothing-shown-requires-2
+    empty-requires-2
     returns-2
     word-requires
     word-requires-2

@@ -30,7 +30,7 @@ returns-2 : tie.Need-returns-2
 returns-2 c = follow-norow _ _ _ _ (c .before .before .before .before .before .before .call-before .ensures) _ (c .before .before .before .before .callee .given .1) (seen-nowhere (bookOf _ _ _ _) _ _ (c .before .before .function-for .ensures) (c .enum-told .given .1))
 
 returns-3 : tie.Need-returns-3
-returns-3 c = 
+returns-3 c =
     let v = seen-within (bookOf _ _ _ _) _ _ (c .before .before .before .before .function-for .ensures) _ _ _ (c .before .before .around .given .1) in
     follow-saves _ _ _ _ (c .before .before .before .before .before .before .before .before .call-before .ensures) _ (c .before .before .before .before .before .before .callee .given .1) _ (v .was) (v .saves-is ∙ c .if1 .taken)
 
@@ -44,12 +44,12 @@ enum-told-2 : tie.Need-enum-told-2
 enum-told-2 c = search needs
 
 returns-4 : tie.Need-returns-4
-returns-4 c = 
+returns-4 c =
     let v = seen-within (bookOf _ _ _ _) _ _ (c .before .before .before .before .before .before .before .function-for .ensures) _ _ _ (c .before .before .before .before .before .around .given .1) in
     follow-nolink _ _ _ _ (c .before .before .before .before .before .before .before .before .before .before .before .call-before .ensures) _ (c .before .before .before .before .before .before .before .before .before .callee .given .1) _ (v .was) _ (c .before .before .link-at .ensures) (c .enum-told2 .given .1)
 
 returns-5 : tie.Need-returns-5
-returns-5 c = 
+returns-5 c =
     let v = seen-within (bookOf _ _ _ _) _ _ (c .before .before .before .before .before .before .before .before .function-for .ensures) _ _ _ (c .before .before .before .before .before .before .around .given .1) in
     follow-to _ _ _ _ (c .before .before .before .before .before .before .before .before .before .before .before .before .call-before .ensures) _ (c .before .before .before .before .before .before .before .before .before .before .callee .given .1) _ (v .was) _ (c .before .before .before .link-at .ensures) _ (c .before .off .given .1) _ _ (v .start-is) (v .end-is) (v .saves-is ∙ c .before .before .before .before .if1 .left)
 
