@@ -14,7 +14,7 @@ use Rattle.code.specs.Code.{Code, codeIsGood, address, offset, size, hol
 use Rattle.code.specs.declared.Place.the-variants.{At}
 use Rattle.code.specs.declared.Insn.the-variants.{Is}
 use Rattle.code.specs.declared.Window.{Window}
-use Rattle.code.proofs.Laws.{held, first-held, place-at}
+use Rattle.code.proofs.Laws.{held, place-at}
 
 -- bytes of a section are in none that is apart from it
 elsewhere : (s : List ℕ) (n a k j : ℕ) → 0 < n → address s k ≤ a → a + n ≤ address s k + size s k → areApart s k j ≡ true → holdsBytes s n a j ≡ false
@@ -44,11 +44,11 @@ module _ (s : List ℕ) (addr k : ℕ) (e : k ≡ firstFrom (holdsBytes s 2 addr
 module _ (s : List ℕ) (addr : ℕ) (w : Window) (e : w ≡ windowAt s addr) where
   -- a window is a section that stands alone, or shows nothing
   by-window {ℓ} : {P : Type ℓ} → (w ≡ windowOn 0 0 0 → P)
-      → ((k : ℕ) → k < length s / 3 → addr + 2 ≤ address s k + size s k → all k (areApart s k) ≡ true → w ≡ windowOn (address s k) (offset s k) (size s k) → P) → P
+      → ((k : ℕ) → k < length s / 3 → all k (areApart s k) ≡ true → w ≡ windowOn (address s k) (offset s k) (size s k) → P) → P
   by-window none some =
       by-bool (ltb k m)
       (λ t. by-bool (all k (areApart s k))
-      (λ u. some k (ltb-true k m t) (first-held s 2 addr k refl (ltb-true k m t) .1) u (e ∙ sym (window-alone s addr k refl (ltb-true k m t) u)))
+      (λ u. some k (ltb-true k m t) u (e ∙ sym (window-alone s addr k refl (ltb-true k m t) u)))
       (λ u. none (e ∙ sym (window-shared s addr k refl (ltb-true k m t) u))))
       (λ t. none (e ∙ sym (window-nowhere s addr k refl (ltb-false k m t))))
     where
@@ -63,7 +63,7 @@ module _ (s : List ℕ) (addr : ℕ) (w : Window) (e : w ≡ windowAt s addr) wh
   unfolding holdsBytes
   shown n a z l h =
       by-window (λ q. absurd (let b : w .base ≡ 0 = ap (λ (x : Window). x .base) q in let c : w .size ≡ 0 = ap (λ (x : Window). x .size) q in omega arith))
-      (λ k t o u q.
+      (λ k t u q.
       let b : w .base ≡ address s k = ap (λ (x : Window). x .base) q in
       let p : w .place ≡ offset s k = ap (λ (x : Window). x .place) q in
       let c : w .size ≡ size s k = ap (λ (x : Window). x .size) q in
@@ -79,7 +79,7 @@ unfolding codeIsGood insnAt
 window-shows c g addr w e =
     by-window (c .sections) addr w e
     (λ q. shows (rw q (omega arith)) (rw q (omega arith)))
-    (λ k t o u q. shows (rw q (leb-true _ _ (all-at _ _ k (every-at _ 4 g) t))) (rw q (leb-true _ _ (all-at _ _ k (every-at _ 3 g) t))))
+    (λ k t u q. shows (rw q (leb-true _ _ (all-at _ _ k (every-at _ 4 g) t))) (rw q (leb-true _ _ (all-at _ _ k (every-at _ 3 g) t))))
   where
     shows : w .place + w .size ≤ length (c .bytes) → w .base + w .size ≤ 2 ^ 32 → Shows c w
     shows i j = record { inside = i; upto = j; reads = λ n a z l h. rw (shown (c .sections) addr w e n a z l h) }
