@@ -10,14 +10,17 @@ use borrow.Author.Tests.{leb-true, ltb-true, ltb-false, lt-ltb, le-ltb, le-leb}
 use Rattle.words.specs.Words.{plus, firstFrom}
 use Rattle.words.proofs.Laws.{every-at, all-at, and-left, and-right, first-by, first-holds}
 use Rattle.words.proofs.Cases.{by-bool}
-use Rattle.code.specs.Code.{Code, codeIsGood, address, offset, size, holdsBytes, placeOf, isPlaced, little}
+use Rattle.code.specs.Code.{Code, codeIsGood, address, offset, size, liesIn, holdsBytes, placeOf, isPlaced, little}
 use Rattle.code.specs.declared.Place.the-variants.{At, Nowhere}
 
--- a section that holds the bytes starts at or before them and ends at or after them
+-- bytes that lie among others start at or after them and end at or before them
+pub lies : (b m n a : ℕ) → liesIn b m n a ≡ true → (b ≤ a) × (a + n ≤ b + m)
+lies b m n a e = (leb-true _ _ (and-left (leb b a) (leb (a + n) (b + m)) e), leb-true _ _ (and-right (leb b a) (leb (a + n) (b + m)) e))
+
+-- so it is with a section that holds them
 pub held : (s : List ℕ) (n a k : ℕ) → holdsBytes s n a k ≡ true → (address s k ≤ a) × (a + n ≤ address s k + size s k)
 unfolding holdsBytes
-held s n a k e =
-    (leb-true _ _ (and-left (leb (address s k) a) (leb (a + n) (address s k + size s k)) e), leb-true _ _ (and-right (leb (address s k) a) (leb (a + n) (address s k + size s k)) e))
+held s n a k e = lies _ _ _ _ e
 
 nowhere-at : {y : ℕ} → Nowhere ≡ At y → ⊥
 nowhere-at e = let z : _≡_ {A = ℕ} 0 1 = cc in omega arith

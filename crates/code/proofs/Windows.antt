@@ -8,13 +8,13 @@ use lib.ListN.{length}
 use lib.Dec.{leb, ltb}
 use borrow.Author.Tests.{leb-true, ltb-true, ltb-false, lt-ltb, le-ltb, le-leb}
 use Rattle.words.specs.Words.{all, firstFrom}
-use Rattle.words.proofs.Laws.{every-at, all-at, and-left, and-right, first-is}
+use Rattle.words.proofs.Laws.{every-at, all-at, first-is}
 use Rattle.words.proofs.Cases.{by-bool}
-use Rattle.code.specs.Code.{Code, codeIsGood, address, offset, size, holdsBytes, placeOf, insnAt, little, areApart, windowOn, windowHas, windowAt, Shows}
+use Rattle.code.specs.Code.{Code, codeIsGood, address, offset, size, liesIn, holdsBytes, placeOf, insnAt, little, areApart, windowOn, windowAt, Shows}
 use Rattle.code.specs.declared.Place.the-variants.{At}
 use Rattle.code.specs.declared.Insn.the-variants.{Is}
 use Rattle.code.specs.declared.Window.{Window}
-use Rattle.code.proofs.Laws.{held, place-at}
+use Rattle.code.proofs.Laws.{lies, held, place-at}
 
 -- bytes of a section are in none that is apart from it
 elsewhere : (s : List ℕ) (n a k j : ℕ) → 0 < n → address s k ≤ a → a + n ≤ address s k + size s k → areApart s k j ≡ true → holdsBytes s n a j ≡ false
@@ -84,20 +84,17 @@ window-shows c g addr w e =
     shows : w .place + w .size ≤ length (c .bytes) → w .base + w .size ≤ 2 ^ 32 → Shows c w
     shows i j = record { inside = i; upto = j; reads = λ n a z l h. rw (shown (c .sections) addr w e n a z l h) }
 
--- what a window has is read there
-module _ (c : Code) (w : Window) (v : Shows c w) (n a : ℕ) (h : windowHas w n a ≡ true) where
-  within : (w .base ≤ a) × (a + n ≤ w .base + w .size)
-  within = (leb-true _ _ (and-left (leb (w .base) a) (leb (a + n) (w .base + w .size)) h), leb-true _ _ (and-right (leb (w .base) a) (leb (a + n) (w .base + w .size)) h))
-
+-- what lies in a window is read there
+module _ (c : Code) (w : Window) (v : Shows c w) (n a : ℕ) (h : liesIn (w .base) (w .size) n a ≡ true) where
   pub has-before : w .base ≤ a
-  has-before = within .0
+  has-before = lies _ _ _ _ h .0
 
   pub has-room : (from : ℕ) → from ≡ a - w .base → w .place + from + n ≤ length (c .bytes)
   has-room from q =
-      let l : w .base ≤ a = within .0 in
-      let r : a + n ≤ w .base + w .size = within .1 in
+      let l : w .base ≤ a = has-before in
+      let r : a + n ≤ w .base + w .size = lies _ _ _ _ h .1 in
       let i : w .place + w .size ≤ length (c .bytes) = v .inside in
       omega arith
 
   pub has-reads : 0 < n → (from : ℕ) → from ≡ a - w .base → (x : ℕ) → x ≡ little n (c .bytes) (w .place + from) → Is x ≡ insnAt n c a
-  has-reads z from q x p = ap Is (p ∙ rw q) ∙ sym (v .reads n a z (within .0) (within .1))
+  has-reads z from q x p = ap Is (p ∙ rw q) ∙ sym (v .reads n a z has-before (lies _ _ _ _ h .1))

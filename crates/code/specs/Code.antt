@@ -44,10 +44,13 @@ codeIsGood c =
     ∷ all (length (c .sections) / 3) (λ k. leb (offset (c .sections) k + size (c .sections) k) (length (c .bytes)))
     ∷ [])
 
+-- n bytes at addr all lie among the m bytes at base
+abbrev pub liesIn : ℕ → ℕ → ℕ → ℕ → Bool
+liesIn base m n addr = leb base addr && leb (addr + n) (base + m)
+
 -- n bytes at addr all lie in section k
 unfoldable pub holdsBytes : List ℕ → ℕ → ℕ → ℕ → Bool
-holdsBytes sections n addr k =
-    leb (address sections k) addr && leb (addr + n) (address sections k + size sections k)
+holdsBytes sections n addr k = liesIn (address sections k) (size sections k) n addr
 
 -- where in the slice n bytes at addr stand: in the first section where all fit
 unfoldable pub placeOf : List ℕ → ℕ → ℕ → Place
@@ -82,10 +85,6 @@ areApart sections k j =
 -- the n bytes at address b stand in the slice from p on
 abbrev pub windowOn : ℕ → ℕ → ℕ → Window
 windowOn b p n = record { base = b; place = p; size = n }
-
--- all of the n bytes at addr lie in a window
-abbrev pub windowHas : Window → ℕ → ℕ → Bool
-windowHas w n addr = leb (w .base) addr && leb (addr + n) (w .base + w .size)
 
 -- section k, where no earlier one has a byte of it, else no bytes
 abbrev pub windowOf : List ℕ → ℕ → Window

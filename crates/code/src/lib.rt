@@ -6,7 +6,7 @@ ghost use mathlib.Core.Bool.{true};
 ghost use Prim.Native.Nat.{_+_, _*_, _/_, _≤_, _<_, _^_};
 ghost use lib.ListN.{length, getD};
 ghost use Rattle.words.specs.Words.{all, firstFrom};
-ghost use Rattle.code.specs.Code.{codeOf, codeIsGood, holdsBytes, placeOf, isPlaced, little, insnAt, areApart, windowOn, windowHas, windowAt, Shows};
+ghost use Rattle.code.specs.Code.{codeOf, codeIsGood, liesIn, holdsBytes, placeOf, isPlaced, little, insnAt, areApart, windowOn, windowAt, Shows};
 
 // Where in the slice some bytes stand.
 pub enum Place {
@@ -31,13 +31,6 @@ impl Window {
             place: 0,
             size: 0,
         }
-    }
-
-    // Whether all of the n bytes at addr lie in it.
-    fn has(self, n: u32, addr: u32) -> bool
-        ensures { λ r. ⌜ r ≡ windowHas self n addr ⌝ }
-    {
-        (self.base <= addr) & (addr as u64 + n as u64 <= self.base as u64 + self.size as u64)
     }
 }
 
@@ -67,6 +60,13 @@ pub fn code_is_good(sections: &[u32], code: &[u8]) -> bool
     words::pairs_upto(sections, 3, n, 1, 2, code.len())
 }
 
+// Whether n bytes at addr all lie among the m bytes at base.
+fn lies_in(base: u32, m: u32, n: u32, addr: u32) -> bool
+    ensures { λ r. ⌜ r ≡ liesIn base m n addr ⌝ }
+{
+    (base <= addr) & (addr as u64 + n as u64 <= base as u64 + m as u64)
+}
+
 // Whether n bytes at addr all lie in section k.
 fn holds(sections: &[u32], n: u32, addr: u32, k: usize) -> bool
     requires { ⌜ 3 * k + 2 < length (now sections) ⌝ }
@@ -74,7 +74,7 @@ fn holds(sections: &[u32], n: u32, addr: u32, k: usize) -> bool
 {
     let start = words::word(sections, 3, k, 0);
     let size = words::word(sections, 3, k, 2);
-    (start <= addr) & (addr as u64 + n as u64 <= start as u64 + size as u64)
+    lies_in(start, size, n, addr)
 }
 
 // The first section that holds n bytes at addr, or the number of sections.
@@ -187,7 +187,7 @@ pub fn code2(sections: &[u32], code: &[u8], window: Window, addr: u32) -> Insn
     requires { ⌜ (codeIsGood (codeOf (now sections) (now code)) ≡ true) × Shows (codeOf (now sections) (now code)) window ⌝ }
     ensures { λ r. ⌜ r ≡ insnAt 2 (codeOf (now (sections .entry)) (now (code .entry))) addr ⌝ }
 {
-    if window.has(2, addr) {
+    if lies_in(window.base, window.size, 2, addr) {
         let from = words::wide(addr - window.base);
         return Insn::Is(little2(code, window.place + from));
     }
@@ -202,7 +202,7 @@ pub fn code4(sections: &[u32], code: &[u8], window: Window, addr: u32) -> Insn
     requires { ⌜ (codeIsGood (codeOf (now sections) (now code)) ≡ true) × Shows (codeOf (now sections) (now code)) window ⌝ }
     ensures { λ r. ⌜ r ≡ insnAt 4 (codeOf (now (sections .entry)) (now (code .entry))) addr ⌝ }
 {
-    if window.has(4, addr) {
+    if lies_in(window.base, window.size, 4, addr) {
         let from = words::wide(addr - window.base);
         return Insn::Is(little4(code, window.place + from));
     }

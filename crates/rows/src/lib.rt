@@ -316,7 +316,7 @@ pub fn function_for(
     }
 }
 
-// Of the row for a pc, where its rules stand alone.
+// Of the row for a pc, only where its rules stand.
 pub fn rules_for(tables: &[u32], functions: &[u32], rows: &[u32], rules: &[u32], pc: u32) -> Rules
     requires { ⌜ bookIsGood (bookOf (now tables) (now functions) (now rows) (now rules)) ≡ true ⌝ }
     ensures { λ r. ⌜ r ≡ rulesOf (rowFor (bookOf (now (tables .entry)) (now (functions .entry)) (now (rows .entry)) (now (rules .entry))) pc) ⌝ }

@@ -8,11 +8,11 @@ use borrow.Author.Needs.{needs}
 use Rattle.code.proofs.code2.Statement.{statement}
 use Rattle.code.proofs.code2.Tie as tie
 
-has-requires : tie.Need-has-requires
-has-requires c κs = search needs
+lies-in-requires : tie.Need-lies-in-requires
+lies-in-requires c κs = search needs
 
 sub-wide : tie.Need-sub-wide
-sub-wide c = has-before (codeOf _ _) _ (c .before .before .before .before .before .pre .1) _ _ (sym (c .before .before .has .ensures) ∙ c .before .if1 .taken)
+sub-wide c = has-before (codeOf _ _) _ (c .before .before .before .before .before .pre .1) _ _ (sym (c .before .before .lies-in .ensures) ∙ c .before .if1 .taken)
 
 wide-requires : tie.Need-wide-requires
 wide-requires c κs = search needs
@@ -21,10 +21,10 @@ add-little2 : tie.Need-add-little2
 add-little2 c = search needs
 
 little2-requires : tie.Need-little2-requires
-little2-requires c κs = has-room (codeOf _ _) _ (c .before .before .before .before .before .before .before .pre .1) _ _ (sym (c .before .before .before .before .has .ensures) ∙ c .before .before .before .if1 .taken) _ (c .before .wide .ensures)
+little2-requires c κs = has-room (codeOf _ _) _ (c .before .before .before .before .before .before .before .pre .1) _ _ (sym (c .before .before .before .before .lies-in .ensures) ∙ c .before .before .before .if1 .taken) _ (c .before .wide .ensures)
 
 returns : tie.Need-returns
-returns c = has-reads (codeOf _ _) _ (c .before .before .before .before .before .before .before .before .pre .1) _ _ (sym (c .before .before .before .before .before .has .ensures) ∙ c .before .before .before .before .if1 .taken) (omega arith) _ (c .before .before .wide .ensures) _ (c .little2 .ensures .0)
+returns c = has-reads (codeOf _ _) _ (c .before .before .before .before .before .before .before .before .pre .1) _ _ (sym (c .before .before .before .before .before .lies-in .ensures) ∙ c .before .before .before .before .if1 .taken) (omega arith) _ (c .before .before .wide .ensures) _ (c .little2 .ensures .0)
 
 find-requires : tie.Need-find-requires
 find-requires c κs = search needs
@@ -50,7 +50,7 @@ pub code2-spec : {M : Type 1} → statement M
 code2-spec =
     tie.close
     (tie.spec
-    has-requires
+    lies-in-requires
     sub-wide
     wide-requires
     add-little2
