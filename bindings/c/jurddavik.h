@@ -1,4 +1,4 @@
-/* The stack walk for C: the functions of crates/exports, made into a library by `rt staticlib exports` (target/staticlib/libexports.a, x86-64).
+/* The stack walk for C: the functions of crates/exports, made into a library by `bindings/library` (target/staticlib/libexports.a, x86-64).
  *
  * Every function returns 0, or document 01's refusal number (JURDDAVIK_...). What it answers goes into the arrays that the caller lends; a refused
  * call leaves them all unchanged. No argument is out of bounds for these functions: whatever the lists hold, the answer is what the definitions in

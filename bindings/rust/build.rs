@@ -1,4 +1,4 @@
-//! Links the library that `rt staticlib exports` writes. The variable
+//! Links the library that `bindings/library` writes. The variable
 //! JURDDAVIK_LIB names its folder, if it is not in this repository's target/.
 
 use std::{env, path::PathBuf};
@@ -16,7 +16,7 @@ fn main() {
     println!("cargo:rustc-link-lib=static=exports");
     if !library.is_file() {
         println!(
-            "cargo:warning={} is missing: run `rt staticlib exports`",
+            "cargo:warning={} is missing: run `bindings/library`",
             library.display()
         );
     }
