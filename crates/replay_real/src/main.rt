@@ -59,16 +59,21 @@ fn walk_file(rt: &impl Print, mut file: impl Read + Drop) -> io::Result<()> {
     walk(rt, &sheet[..n])
 }
 
-// Replays the sheet of that name. Where it cannot be opened, standard error says why, and the next one is replayed.
-fn replay(rt: &(impl Eprint + Files + Print), name: &[u8]) -> io::Result<()> {
-    rt.write_all(name)?;
-    rt.write_all(b"\n")?;
-    let Ok(name) = str::from_utf8(name) else {
-        return eprintln!(rt; "a file name that is not UTF-8");
-    };
+// Replays the sheet of that name. Where it cannot be opened, standard error says why.
+fn replay(rt: &(impl Eprint + Files + Print), name: &str) -> io::Result<()> {
     match fs::open(rt, name) {
         Ok(file) => walk_file(rt, file),
         Err(error) => eprintln!(rt; "{name}: {error}"),
+    }
+}
+
+// Replays the sheet that an argument names.
+fn replay_argument(rt: &(impl Eprint + Files + Print), name: &[u8]) -> io::Result<()> {
+    rt.write_all(name)?;
+    rt.write_all(b"\n")?;
+    match str::from_utf8(name) {
+        Ok(name) => replay(rt, name),
+        Err(_) => eprintln!(rt; "a file name that is not UTF-8"),
     }
 }
 
@@ -81,7 +86,7 @@ fn replay_all(rt: &(impl Env + Eprint + Files + Print)) -> io::Result<()> {
             Err(FillError::TooLong) => 0,
             Err(FillError::NotPresent) => return Ok(()),
         };
-        replay(rt, &name[..n])?;
+        replay_argument(rt, &name[..n])?;
     }
     Ok(())
 }
