@@ -1,10 +1,11 @@
 #!/usr/bin/env python3
 """Brings the repository's own definitions and lemmas to snake case: port_names.py [--write], at the top of the repository, once, after port.py.
 
-Renamed are: each name in lower camel case in specs/, proofs/ and the clauses of src/ (definitions, fields, constructors, parameters), and
-each name with dashes that specs/ or a file of lemmas right in proofs/ declares. Left are: types and modules, names that Rattle makes (goals,
-steps: in proofs/F/), names from src/, strings and comments' prose outside backquotes. It prints the names that fall together in one file, to
-be looked at: those of today's pairs are a function of src/ and the definition that it computes, or a clause and the definition that it cites."""
+Renamed are: each name in lower camel case in specs/, proofs/ and the clauses of src/ (definitions, fields, constructors, parameters), each
+name with dashes that specs/ or a file of lemmas right in proofs/ declares, and both in comments and in must-fail edits of specs/ and proofs/.
+A lemma whose new name is a definition's or a word of the library gets `_lem`. Left are: types and modules, names that Rattle makes (goals,
+steps: in proofs/F/), names from src/, strings. It prints the names that fall together in one file, to be looked at: a function of src/ and
+the definition that it computes, a clause and the definition that it cites, or a lemma and the function that it is about."""
 import glob, re, sys, collections
 write = "--write" in sys.argv
 token = re.compile(r"\"(?:[^\"\\]|\\.)*\"|[^\s(){}\[\].;,@\"`:=|⌜⌝\\]+|:+|=+|.", re.S)
