@@ -1,11 +1,11 @@
 #!/usr/bin/env python3
 """Brings the repository's own definitions and lemmas to snake case: port_names.py [--write], at the top of the repository, once, after port.py.
 
-Renamed are: each name in lower camel case in specs/, proofs/ and the clauses of src/ (definitions, fields, constructors, parameters), each
-name with dashes that specs/ or a file of lemmas right in proofs/ declares, and both in comments and in must-fail edits of specs/ and proofs/.
-A lemma whose new name is a definition's or a word of the library gets `_lem`. Left are: types and modules, names that Rattle makes (goals,
-steps: in proofs/F/), names from src/, strings. It prints the names that fall together in one file, to be looked at: a function of src/ and
-the definition that it computes, a clause and the definition that it cites, or a lemma and the function that it is about."""
+Renamed are: each name in lower camel case in specs/, proofs/ and the clauses of src/ (definitions, fields, constructors, parameters), and each
+name with dashes that specs/ or a file of lemmas right in proofs/ declares; in comments, those that are declared there; and so in must-fail
+edits of specs/ and proofs/. A lemma whose new name is a definition's gets `_lem`, and so do the lemmas `bit-or` and `bit-xor`, which are words
+of the library, and promises' `is_word`. Left are: types and modules, names that Rattle makes (goals, steps: in proofs/F/), code outside
+clauses, strings. It prints the names that fall together in one file, to be looked at."""
 import glob, re, sys, collections
 write = "--write" in sys.argv
 token = re.compile(r"\"(?:[^\"\\]|\\.)*\"|[^\s(){}\[\].;,@\"`:=|⌜⌝\\]+|:+|=+|.", re.S)
@@ -26,9 +26,6 @@ for f in lemmas:
         if m and word.match(m.group(1)): declared.add(m.group(1))
 # what else a lemma's new name could fall together with: a definition's
 plain = {snake(d) for d in declared if "-" not in d}
-src_names = set()
-for f in glob.glob("crates/*/src/*.rt"):
-    src_names |= set(re.findall(r"\b[a-z_]\w*\b", open(f).read()))
 
 def target(t, f):
     """The new spelling of a token of f, or None."""
