@@ -1,10 +1,7 @@
 -- Whether the first k bytes are digits.
-use Rattle.std.proofs.Common.{◌-◌, ◌≡◌, ◌≤◌}
+use Rattle.std.proofs.Common.{◌≡◌}
 use Rattle.scan.specs.Places.{are_digits}
 use Rattle.esp_backtrace.proofs.are_digits.Given as goal
 
 abbrev pub invariant-loop-k : goal.invariant-loop-k
-invariant-loop-k l = (l.so_far ≡ are_digits l.line l.at l.k) × (l.k ≤ l.n)
-
-abbrev pub decreases-loop-k : goal.decreases-loop-k
-decreases-loop-k l = l.n - l.k
+invariant-loop-k l = l.so_far ≡ are_digits l.line l.at l.k
