@@ -3,8 +3,8 @@ use Rattle.std.proofs.Common.{length, ◌-◌, ◌≡◌}
 use Rattle.esp_idf.specs.Registers.{told_to, pairs_taken}
 use Rattle.esp_idf.proofs.EspIdf.parse_registers.Given as goal
 
-abbrev pub invariant-loop-name_start : goal.invariant-loop-name_start
-invariant-loop-name_start l = pairs_taken (length l.line - l.at) l.line l.at (told_to l.self l.pc l.known l.set) ≡ pairs_taken (length l.line) l.line 0 l.self
+abbrev pub invariant-loop-pair : goal.invariant-loop-pair
+invariant-loop-pair l = pairs_taken (length l.line - l.at) l.line l.at (told_to l.self l.pc l.known l.set) ≡ pairs_taken (length l.line) l.line 0 l.self
 
-abbrev pub decreases-loop-name_start : goal.decreases-loop-name_start
-decreases-loop-name_start l = length l.line - l.at
+abbrev pub decreases-loop-pair : goal.decreases-loop-pair
+decreases-loop-pair l = length l.line - l.at
