@@ -2,17 +2,16 @@
 use Rattle.std.proofs.Common.{◌≡◌, suc, length}
 use Rattle.book.specs.Book.{book_of}
 use Rattle.rows.specs.View.{view_at}
-use Rattle.code.specs.Code.{code_of}
 use Rattle.calls.specs.Call.{call_before}
 use Rattle.calls.specs.Listing.{size_at}
-use Rattle.memory.specs.Memory.{memory_of, read_at}
+use Rattle.memory.specs.Memory.{read_at}
 use Rattle.search.specs.Recover.{scan}
 use Rattle.search.proofs.recover.Given as goal
 
 abbrev pub invariant-loop-word : goal.invariant-loop-word
 invariant-loop-word l =
-    scan (view_at (book_of l.tables l.functions l.rows l.rules)) (call_before (code_of l.sections l.code)) (size_at (code_of l.sections l.code)) (read_at (memory_of l.segments l.words)) l.fuel l.cfa l.function_start l.addr l.allowance
-    ≡ scan (view_at (book_of l.tables l.functions l.rows l.rules)) (call_before (code_of l.sections l.code)) (size_at (code_of l.sections l.code)) (read_at (memory_of l.segments l.words)) (suc (length l.words)) l.cfa l.function_start l.cfa l.initial.allowance
+    scan (view_at (book_of l.tables l.functions l.rows l.rules)) (call_before l.code) (size_at l.code) (read_at l.memory) l.fuel l.cfa l.function_start l.addr l.allowance
+    ≡ scan (view_at (book_of l.tables l.functions l.rows l.rules)) (call_before l.code) (size_at l.code) (read_at l.memory) (suc (length l.memory.words)) l.cfa l.function_start l.cfa l.initial.allowance
 
 abbrev pub decreases-loop-word : goal.decreases-loop-word
 decreases-loop-word l =
