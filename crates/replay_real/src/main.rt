@@ -4,7 +4,6 @@
 
 ghost use Rattle.std.specs.Prelude.{◌≤◌, length, IfOk};
 
-use digits::Printed;
 use std::env::FillError;
 use std::io::Read;
 use std::rt::{Env, Files};
@@ -13,17 +12,13 @@ use std::{fs, io};
 // Prints the pc and sp of each frame. A frame's line has 28 bytes: `frame=`, pc, sp, two flags. Behind the last one stands the line of the stop, which
 // is no frame's, so the text may go on behind the answer.
 fn print_frames(rt: &impl Print, text: &[u8]) -> io::Result<()> {
-    let mut at = 0usize;
-    while at < text.len() {
-        if text.len() - at < 28 {
+    let (lines, _) = text.as_chunks::<28>();
+    for line in lines {
+        if !line.starts_with(b"frame=") {
             return Ok(());
         }
-        if !scan::has(text, at, b"frame=") {
-            return Ok(());
-        }
-        rt.write_all(&text[at + 6..at + 23])?;
+        rt.write_all(&line[6..23])?;
         rt.write_all(b"\n")?;
-        at += 28;
     }
     Ok(())
 }
@@ -31,10 +26,10 @@ fn print_frames(rt: &impl Print, text: &[u8]) -> io::Result<()> {
 // Walks a sheet. The longest text, of 1,024 frames, has under 30,000 bytes.
 fn walk(rt: &impl Print, sheet: &[u8]) -> io::Result<()> {
     let mut text = [0u8; 32768];
-    let Printed::Text(_) = sheet_walk::walk_sheet(sheet, &mut text) else {
-        return rt.write_all(b"no room\n");
-    };
-    print_frames(rt, &text)
+    match sheet_walk::walk_sheet(sheet, &mut text) {
+        Ok(_) => print_frames(rt, &text),
+        Err(_) => rt.write_all(b"no room\n"),
+    }
 }
 
 // Reads until the list is full or the input ends, and gives how many bytes were read.
